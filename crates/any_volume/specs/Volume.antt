@@ -14,12 +14,12 @@ use Rattle.log_reading.specs.Logged.{IsLoggedVolume, IsSoundLogged, RefusesLogRe
 use Rattle.any_volume.specs.declared.volume.AnyVolume.{AnyVolume}
 use Rattle.any_volume.specs.declared.volume.AnyVolume.TheVariants.{Journals, Log}
 
--- a device with these bytes recovers to these files
+-- A device with these bytes recovers to these files.
 abbrev pub RecoversToAny : List ℕ → List File → Type 0
 RecoversToAny bytes files = RecoversTo bytes files ⊎ RecoversToLog bytes files
 
--- Why a device with these bytes isn't read, as far as its bytes are the reason. They are no volume of either kind, or a
--- damaged one of one kind. Memory may be refused for any bytes.
+-- The bytes of a device allow this refusal to read a volume. `NotAVolume`: they are a volume of neither kind.
+-- `Damaged`: they are a damaged volume of one kind. A device fault and a lack of memory are possible with any bytes.
 abbrev pub RefusesAny : List ℕ → Refusal → Type 0
 RefusesAny bytes NotAVolume = IsNotAVolume bytes × RefusesLogReading bytes NotAVolume
 RefusesAny bytes Damaged = IsDamaged bytes ⊎ RefusesLogReading bytes Damaged
@@ -27,7 +27,7 @@ RefusesAny bytes Device = Unit {0}
 RefusesAny bytes OutOfMemory = Unit {0}
 RefusesAny bytes _ = ⊥
 
--- one device call failed where the refusal is Device, and none where it is another that openings have
+-- If the refusal is `Device`, one device call failed. With any other refusal of an opening, none failed.
 abbrev pub RisesFor : ℕ → ℕ → Refusal → Type 0
 RisesFor old new Device = Rises 1 old new
 RisesFor old new OutOfMemory = new ≡ old
@@ -37,12 +37,11 @@ RisesFor old new BadShape = new ≡ old
 RisesFor old new Busy = new ≡ old
 RisesFor old new _ = ⊥
 
--- how many device calls failed, by the result
+-- The number of failed device calls rose from `old` to `new` as the result requires.
 abbrev pub HasCounted : {X : Type 0} → ℕ → ℕ → Result X Refusal → Type 0
 HasCounted old new (Ok found) = new ≡ old
 HasCounted old new (Err refusal) = RisesFor old new refusal
 
--- the number of files
 abbrev pub any_count : {Z : Type 0} → AnyVolume Z → ℕ
 any_count (Journals volume) = length volume.table.files
 any_count (Log volume) = length volume.table.files
@@ -57,12 +56,12 @@ abbrev pub any_blocks : {Z : Type 0} → AnyVolume Z → ℕ
 any_blocks (Journals volume) = block_count volume.table
 any_blocks (Log volume) = (log_of volume.table).blocks
 
--- what holds of each volume that was found
+-- Holds of each volume that a reading finds.
 abbrev pub IsSoundAny : {Z : Type 0} → AnyVolume Z → Type 0
 IsSoundAny (Journals volume) = Unit {0}
 IsSoundAny (Log volume) = IsSoundLogged volume
 
--- these bytes hold this volume
+-- These bytes contain this volume.
 abbrev pub IsAny : {Z : Type 0} → AnyVolume Z → List ℕ → Type 0
 IsAny (Journals volume) bytes = IsRecovered volume bytes
 IsAny (Log volume) bytes = IsLoggedVolume bytes volume

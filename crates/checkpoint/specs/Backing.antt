@@ -1,4 +1,4 @@
--- Entries of the page tables are backed by frames that hold their pages, and none lets a store reach a frozen page.
+-- Each entry of the page tables maps a frame that contains its page. No entry lets a store reach a frozen page.
 use Rattle.std.specs.Prelude.{ℕ, ◌≡◌, ◌<◌, true, false, Some}
 use Rattle.page_entry.specs.Entry.{Mapped}
 use Rattle.page_entry.specs.declared.numbers.FilePage.{FilePage}
@@ -8,12 +8,12 @@ use Rattle.frames.specs.Frames.{FramesState}
 use Rattle.spaces.specs.Spaces.{Spaces, entry_at, place_at}
 use Rattle.checkpoint.specs.Checkpoint.{CheckpointState, Holds, is_held}
 
--- the page of a file that a place is
+-- the page of the file at a place
 abbrev pub page_at : Place → FilePage
 page_at place = record { file = place.file; page = place.page }
 
--- A present entry of a page: the page is mapped, its frame has the page of the file, and the entry is writable only
--- where the mapping's rights allow it and the page isn't held.
+-- A present entry agrees with the page's mapping. Its frame contains the mapped page of the file. The entry is writable
+-- only if the mapping's rights allow it and no store to the page has to wait.
 pub record IsBacked (memory : FramesState) (c : CheckpointState) (spaces : Spaces) (pcid page : ℕ)
     (entry : Mapped) : Type 0 where
   pub place : Place
@@ -22,16 +22,16 @@ pub record IsBacked (memory : FramesState) (c : CheckpointState) (spaces : Space
   pub allowed : entry.writable ≡ true → may_write place.rights ≡ true
   pub thawed : entry.writable ≡ true → is_held memory c (page_at place) ≡ false
 
--- so is each entry
+-- Each present entry is backed.
 abbrev pub AreBacked : FramesState → CheckpointState → Spaces → Type 0
 AreBacked memory c spaces =
     (pcid page : ℕ) (entry : Mapped) → entry_at spaces pcid page ≡ Some entry → IsBacked memory c spaces pcid page entry
 
--- no two frames have one page
+-- No two frames contain the same page of a file.
 abbrev pub HoldsEachOnce : FramesState → Type 0
 HoldsEachOnce memory = (a b : ℕ) (owner : FilePage) → Holds memory a owner → Holds memory b owner → a ≡ b
 
--- each present entry maps a frame that has a note, where there are so many notes
+-- Each present entry maps one of the first `count` frames, which are the frames that have notes.
 abbrev pub HasNotes : Spaces → ℕ → Type 0
 HasNotes spaces count =
     (pcid page : ℕ) (entry : Mapped) → entry_at spaces pcid page ≡ Some entry → entry.frame < count

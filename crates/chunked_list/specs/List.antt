@@ -1,7 +1,7 @@
--- What callers see of a list: its numbers in order, and for how many there is room.
+-- A list as its callers see it: its numbers in order, and how many numbers it has room for.
 use Rattle.std.specs.Prelude.{ℕ, List}
 
--- a list of numbers, and for how many it has memory
+-- the numbers of a list, and how many numbers it has memory for
 pub record ListState : Type 0 where
   pub items : List ℕ
   pub room : ℕ

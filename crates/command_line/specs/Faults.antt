@@ -1,10 +1,10 @@
--- The program's status where its words ask for nothing.
+-- The exit status of the program if its command line is refused.
 use Rattle.std.specs.Prelude.{ℕ}
 use Rattle.command_line.specs.declared.word_fault.WordFault.{WordFault}
 use Rattle.command_line.specs.declared.word_fault.WordFault.TheVariants.{CommandLine, Layout, Slots, FileSpec}
 use Rattle.command_line.specs.declared.word_fault.WordFault.TheVariants.{Missing, Blocks, Key, OtherLayout, Memory}
 
--- 2 for words of another form, 3 where memory is refused
+-- 2 for words that are malformed, and 3 for a lack of memory
 abbrev pub word_status : WordFault → ℕ
 word_status (CommandLine text) = 2
 word_status (Layout word) = 2

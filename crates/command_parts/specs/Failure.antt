@@ -1,4 +1,4 @@
--- The program's status where a command fails.
+-- The exit status of the program if a command fails.
 use Rattle.std.specs.Prelude.{ℕ}
 use Rattle.command_line.specs.Faults.{word_status}
 use Rattle.command_parts.specs.declared.failure.Failure.{Failure}
@@ -6,7 +6,7 @@ use Rattle.command_parts.specs.declared.failure.Failure.TheVariants.{Words, Scri
 use Rattle.command_parts.specs.declared.failure.Failure.TheVariants.{Step, Entry, Act, Wait, Gather}
 use Rattle.command_parts.specs.declared.failure.Failure.TheVariants.{Crashes, Otherwise, Session, Input, Output, Memory}
 
--- 1 for a script or a trace that is refused, 2 for a bad command line, 3 for everything else
+-- 1 for a refused script or trace; 2, or 3 for a lack of memory, for a refused command line; 3 for all other failures
 abbrev pub status_of : Failure → ℕ
 status_of (Words fault) = word_status fault
 status_of (Script path cause) = 1

@@ -1,5 +1,5 @@
--- Loads and stores through a processor's TLB, and free fills and evictions (Intel SDM volume 3, "4-Level Paging",
--- "Accessed and Dirty Flags", "Page-Fault Exceptions", "Caching Translation Information").
+-- Loads and stores through a processor's TLB, and spontaneous fills and evictions (Intel SDM volume 3, "4-Level
+-- Paging", "Accessed and Dirty Flags", "Page-Fault Exceptions", "Caching Translation Information").
 use Rattle.std.specs.Prelude.{ℕ, ◌≡◌, ◌+◌, ◌/◌, ◌%◌, ◌^◌, ◌<◌, ◌≤◌, ◌&&◌, ◌||◌, ◌⊎◌, not, nat_lt, Bool, true, false}
 use Rattle.std.specs.Prelude.{List, length, take, drop, Option, Some, None, IsSome, Result, Ok, Err, if◌then◌else◌}
 use Rattle.page_entry.specs.Entry.{Mapped}
@@ -12,17 +12,16 @@ use Rattle.spaces.specs.Spaces.{Spaces, entry_at, with_entry}
 use Rattle.shootdown.specs.Coherence.{Coheres}
 use Rattle.shootdown.specs.Shootdown.{ShootdownState, current, tlb_of, with_tlb, is_there, not_running}
 
--- what loads and stores reach: the processors, the page tables and the frames
+-- what loads and stores use: the processors, the page tables and the frames
 pub record Hardware : Type 0 where
   pub shootdown : ShootdownState
   pub spaces : Spaces
   pub memory : FramesState
 
--- the hardware with these processors, page tables and frames
 abbrev pub hardware : ShootdownState → Spaces → FramesState → Hardware
 hardware shootdown spaces memory = record { shootdown = shootdown; spaces = spaces; memory = memory }
 
--- 1 to 8 bytes inside one page, below 2^47
+-- An access of 1 to 8 bytes within one page, below 2^47.
 pub record IsAccess (va count : ℕ) : Type 0 where
   pub some : 0 < count
   pub few : count ≤ 8
@@ -39,21 +38,21 @@ cached_of pcid page entry = record {
   dirty = entry.dirty;
 }
 
--- whether a cached entry serves an access without a look at the table: any serves a load, and one that is writable and
--- dirty a store
+-- Whether a cached entry serves an access without a walk. Any entry serves a load. An entry that is writable and dirty
+-- serves a store.
 abbrev pub serves : Bool → CachedEntry → Bool
 serves write e = not write || (e.writable && e.dirty)
 
--- The code of the page fault where a walk finds no entry that allows the access, or the entry with its use noted. Bit 0
--- of the code: the page is present; bit 1: a store; bit 2: a user access.
+-- The result of a walk: the entry with its accessed and dirty bits set for this access, or the code of a page fault. In
+-- the code, bit 0 is set if the page is present, bit 1 for a store, and bit 2 for a user access.
 abbrev pub walk : Option Mapped → Bool → Result Mapped ℕ
 walk None write = Err (if write then 6 else 4)
 walk (Some entry) write =
     if write && not entry.writable then Err 7
     else Ok (record entry { accessed = true; dirty = entry.dirty || write })
 
--- after a walk of processor p to this entry of a page of its current space: the entry is in the table as noted, and
--- cached as the newest
+-- The hardware after processor p walked to this entry of a page of its current space. The entry is in the table, and
+-- cached as the newest one.
 abbrev pub walked : Hardware → ℕ → ℕ → Mapped → Hardware
 walked h p page entry =
     let s = h.shootdown in
@@ -62,32 +61,32 @@ walked h p page entry =
       spaces = with_entry h.spaces (current s p) page (Some entry);
     }
 
--- the outcome of a walk
+-- the outcome of a walk with this result: the frame and the hardware, or the code of a page fault
 abbrev pub walked_to : Hardware → ℕ → ℕ → Result Mapped ℕ → Result (ℕ × Hardware) ℕ
 walked_to h p page (Ok entry) = Ok (entry.frame, walked h p page entry)
 walked_to h p page (Err code) = Err code
 
--- a walk of processor p to a page of its current space
 abbrev pub walking : Hardware → ℕ → ℕ → Bool → Result (ℕ × Hardware) ℕ
 walking h p page write = walked_to h p page (walk (entry_at h.spaces (current h.shootdown p) page) write)
 
--- the frame of what is cached, where that serves the access
+-- the frame of the cached entry, if there is one and it serves the access
 abbrev pub frame_served : Bool → Option CachedEntry → Option ℕ
 frame_served write None = None
 frame_served write (Some e) = if serves write e then Some e.frame else None
 
--- a translation where this is the cached entry of the page: through it where it serves, else by a walk
+-- A translation, given the cached entry of the page. If that entry serves the access, its frame is used. Otherwise the
+-- processor walks the table.
 abbrev pub translated_by : Hardware → ℕ → ℕ → Bool → Option CachedEntry → Result (ℕ × Hardware) ℕ
 translated_by h p page write (Some e) = if serves write e then Ok (e.frame, h) else walking h p page write
 translated_by h p page write None = walking h p page write
 
--- the frame that processor p reaches at a page of its current space, and the hardware after the translation; or the
--- code of a page fault
+-- A translation of a page of processor p's current space: the frame and the hardware after it, or a page fault's code.
 abbrev pub translated : Hardware → ℕ → ℕ → Bool → Result (ℕ × Hardware) ℕ
 translated h p page write =
     translated_by h p page write (cached (tlb_of h.shootdown p) (current h.shootdown p) page)
 
--- after a fault: the processor's entry of that page under the current PCID is dropped, and nothing else changes
+-- The hardware after a page fault. The processor's cached entry of that page under the current PCID is dropped, and
+-- nothing else changes.
 abbrev pub faulted : Hardware → ℕ → ℕ → Hardware
 faulted h p page =
     let s = h.shootdown in
@@ -95,68 +94,68 @@ faulted h p page =
 
 -- ---- the four acts
 
--- why an access is refused by its processor or its range
+-- The processor or the range of an access is the cause of this refusal.
 abbrev pub AccessRefused : Hardware → ℕ → ℕ → ℕ → Refusal → Type 0
 AccessRefused h p va count refusals.Einval =
     (not_running h.shootdown p ≡ Some refusals.Einval) ⊎ ((not_running h.shootdown p ≡ None) × (IsAccess va count → ⊥))
 AccessRefused h p va count refusals.Stalled = not_running h.shootdown p ≡ Some refusals.Stalled
 AccessRefused h p va count why = ⊥
 
--- a page fault of an access
+-- An access caused a page fault with this code.
 pub record Faults (h : Hardware) (p va count : ℕ) (write : Bool) (code : ℕ) (new : Hardware) : Type 0 where
-  -- the processor is there and goes on with loads and stores
+  -- The processor exists, and is active or interrupted.
   pub running : not_running h.shootdown p ≡ None
   pub access : IsAccess va count
-  -- neither a cached entry nor the table allows it
+  -- Neither a cached entry nor the page table allows the access.
   pub fault : translated h p (va / 4096) write ≡ Err code
   pub dropped : new ≡ faulted h p (va / 4096)
 
--- processor p loaded count bytes at va: they are those of the frame that the translation reaches
+-- Processor p loaded `count` bytes at `va`: the bytes of the frame that the translation reaches.
 pub record LoadMade (h : Hardware) (p va count : ℕ) (bytes : List ℕ) (new : Hardware) : Type 0 where
   pub running : not_running h.shootdown p ≡ None
   pub access : IsAccess va count
   -- the frame that is reached, and the hardware after the translation
   pub frame : ℕ
   pub translation : translated h p (va / 4096) false ≡ Ok (frame, new)
-  -- the bytes of that frame
+  -- The bytes are those of that frame.
   pub read : bytes ≡ take count (drop (va % 4096) (bytes_of (frame_at h.memory frame)))
 
--- processor p stored these bytes at va: they went into the frame that the translation reaches, and into no other
+-- Processor p stored these bytes at `va`: into the frame that the translation reaches, and into no other.
 pub record StoreMade (h : Hardware) (p va : ℕ) (bytes : List ℕ) (new : Hardware) : Type 0 where
   pub running : not_running h.shootdown p ≡ None
   pub access : IsAccess va (length bytes)
   pub frame : ℕ
   pub mid : Hardware
   pub translation : translated h p (va / 4096) true ≡ Ok (frame, mid)
-  -- the bytes go into that frame
+  -- The bytes are written into that frame.
   pub written : new ≡ record mid { memory = with_bytes mid.memory frame (va % 4096) bytes }
 
--- a load answers bytes, or is refused
+-- A load answers bytes, or is refused.
 abbrev pub Loads : Hardware → ℕ → ℕ → ℕ → Result (List ℕ) Refusal → Hardware → Type 0
 Loads h p va count (Ok bytes) new = LoadMade h p va count bytes new
 Loads h p va count (Err (refusals.Fault code)) new = Faults h p va count false code new
 Loads h p va count (Err why) new = AccessRefused h p va count why × (new ≡ h)
 
--- a store is made, or is refused
+-- A store is made, or is refused.
 abbrev pub Stores : Hardware → ℕ → ℕ → List ℕ → Result (Unit {0}) Refusal → Hardware → Type 0
 Stores h p va bytes (Ok done) new = StoreMade h p va bytes new
 Stores h p va bytes (Err (refusals.Fault code)) new = Faults h p va (length bytes) true code new
 Stores h p va bytes (Err why) new = AccessRefused h p va (length bytes) why × (new ≡ h)
 
--- A fill of the TLB that nobody asked for: of any page of the current space that has an entry, in whatever state the
--- processor is. The answer tells whether there was one.
+-- A TLB fill without an access, which hardware may make in any state of the processor. It caches a page of the current
+-- space. The answer is whether the page has an entry.
 abbrev pub filled_by : Hardware → ℕ → ℕ → Option Mapped → Bool × Hardware
 filled_by h p page None = (false, h)
 filled_by h p page (Some entry) = (true, walked h p page (record entry { accessed = true }))
 
--- processor p's TLB is filled so with a page of its current space; Einval where there is no such processor
+-- Processor p's TLB is filled with a page of its current space. The refusal is Einval if the processor doesn't exist.
 abbrev pub Fills : Hardware → ℕ → ℕ → Result Bool Refusal → Hardware → Type 0
 Fills h p page (Ok there) new =
     (is_there h.shootdown p ≡ true)
     × ((there, new) ≡ filled_by h p page (entry_at h.spaces (current h.shootdown p) page))
 Fills h p page (Err why) new = (is_there h.shootdown p ≡ false) × (why ≡ refusals.Einval) × (new ≡ h)
 
--- an eviction that nobody asked for: of the entry in a slot, if there is such a slot
+-- A TLB eviction without an access: the entry in a slot is dropped. The answer is whether the slot has an entry.
 abbrev pub Evicts : Hardware → ℕ → ℕ → Result Bool Refusal → Hardware → Type 0
 Evicts h p slot (Ok there) new =
     let s = h.shootdown in
@@ -164,25 +163,25 @@ Evicts h p slot (Ok there) new =
     × (new ≡ record h { shootdown = with_tlb s p (evicted (tlb_of s p) slot) })
 Evicts h p slot (Err why) new = (is_there h.shootdown p ≡ false) × (why ≡ refusals.Einval) × (new ≡ h)
 
--- each entry of the tables maps a frame that is in use
+-- Each entry of the page tables maps a frame that is in use.
 abbrev pub MapsInUse : Spaces → FramesState → Type 0
 MapsInUse spaces memory =
     (pcid page : ℕ) (entry : Mapped) → entry_at spaces pcid page ≡ Some entry → IsSome (frame_at memory entry.frame)
 
--- What an access relies on: cached entries that may be used agree with the tables, and entries of the tables map frames
--- that are in use.
+-- The condition for accesses. Cached entries that may be used agree with the page tables, and entries of the tables map
+-- frames that are in use.
 pub record IsReachable (h : Hardware) : Type 0 where
   pub coheres : Coheres h.spaces h.shootdown
   pub in_use : MapsInUse h.spaces h.memory
 
--- A load that is made reads the frame that the table maps the page to, also where it goes through a cached entry.
+-- A load read the frame to which the page table maps the page, even if it used a cached entry.
 pub record ReadsThrough (h : Hardware) (p va count : ℕ) (bytes : List ℕ) : Type 0 where
   pub entry : Mapped
   pub present : entry_at h.spaces (current h.shootdown p) (va / 4096) ≡ Some entry
   pub read : bytes ≡ take count (drop (va % 4096) (bytes_of (frame_at h.memory entry.frame)))
 
--- A store that is made writes into the frame that the table maps the page to, by an entry that allows writing, and into
--- no other.
+-- A store wrote into the frame to which the page table maps the page, and into no other. The table's entry allows
+-- writing.
 pub record WritesThrough (h : Hardware) (p va : ℕ) (bytes : List ℕ) (memory : FramesState) : Type 0 where
   pub entry : Mapped
   pub present : entry_at h.spaces (current h.shootdown p) (va / 4096) ≡ Some entry

@@ -1,22 +1,22 @@
--- What loads, stores, fills and evictions keep of the page tables and of the frames that they map.
+-- What loads, stores, fills and evictions don't change in the page tables and the frames that they map.
 use Rattle.std.specs.Prelude.{ℕ, ◌≡◌, true, Option, Some, None}
 use Rattle.page_entry.specs.Entry.{Mapped}
 use Rattle.spaces.specs.Spaces.{Spaces, SpacesState, has_space, space_at, entry_at}
 
--- the entry is the same, but for its accessed and its dirty bit, which may have been set
+-- The entry is the same, except that its accessed and dirty bits may have been set.
 pub record IsUsed (old new : Mapped) : Type 0 where
   pub same_frame : new.frame ≡ old.frame
   pub same_writable : new.writable ≡ old.writable
   pub still_accessed : old.accessed ≡ true → new.accessed ≡ true
   pub still_dirty : old.dirty ≡ true → new.dirty ≡ true
 
--- a page without an entry stays without one
+-- The entry of a page is the same in that sense, or the page still has none.
 abbrev pub IsUsedAt : Option Mapped → Option Mapped → Type 0
 IsUsedAt None new = new ≡ None
 IsUsedAt (Some entry) new = (now : Mapped) × (new ≡ Some now) × IsUsed entry now
 
--- The spaces and what they map are the same, and each entry is but for its accessed and its dirty bit; what is prepared
--- stays so.
+-- The spaces and their mappings are the same. So are their entries, except that accessed and dirty bits may have been
+-- set.
 pub record OnlyUses (old new : SpacesState) : Type 0 where
   pub same_spaces : (pcid : ℕ) → has_space new.map pcid ≡ has_space old.map pcid
   pub same_places : (pcid : ℕ) → (space_at new.map pcid).places ≡ (space_at old.map pcid).places

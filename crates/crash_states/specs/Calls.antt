@@ -1,4 +1,4 @@
--- Device calls, and a disk in memory that lists the calls that are made of it and fails one of them.
+-- Device calls, and a disk in memory that lists its calls and fails one of them.
 use Rattle.std.specs.Prelude.{ℕ, zero, suc, ◌≡◌, ◌+◌, ◌==◌, not, if◌then◌else◌, Bool, true, false}
 use Rattle.std.specs.Prelude.{List, [], ◌∷◌, ◌++◌, length, map}
 use Rattle.std.specs.List.{count_by, AllByRecursion}
@@ -9,8 +9,8 @@ use Rattle.crash_states.specs.declared.call.Call.{Call}
 use Rattle.crash_states.specs.declared.call.CallKind.{CallKind}
 use Rattle.crash_states.specs.declared.call.CallKind.TheVariants.{Read, Write, Sync}
 
--- a device call: what it does, its offset, how many bytes it reads or writes, those that it writes, and whether it
--- failed
+-- A device call: its kind, its offset, the number of bytes that it reads or writes, the bytes that it writes, and
+-- whether it failed.
 pub record DeviceCall : Type 0 where
   pub kind : CallKind
   pub at : ℕ
@@ -30,7 +30,7 @@ call_of call = record {
 abbrev pub device_calls_of : {A : Type 0} → List (Call A) → List DeviceCall
 device_calls_of calls = map (λ call. call_of call) calls
 
--- the calls of a disk, each as it is listed
+-- each call, as the disk lists it
 abbrev pub read_call : ℕ → ℕ → Bool → DeviceCall
 read_call at len failed = record { kind = Read; at = at; len = len; written = []; failed = failed }
 
@@ -40,19 +40,18 @@ write_call at bytes failed = record { kind = Write; at = at; len = length bytes;
 abbrev pub sync_call : Bool → DeviceCall
 sync_call failed = record { kind = Sync; at = 0; len = 0; written = []; failed = failed }
 
--- the call, as one that failed
 abbrev pub failing : DeviceCall → DeviceCall
 failing call = record call { failed = true }
 
--- the calls up to the one of this number, counted from 1, which fails; all of them where there is none of this number
+-- The calls up to the call of this number, counted from 1, which fails. If there is no such call, all calls.
 abbrev pub calls_until : List DeviceCall → ℕ → List DeviceCall
 calls_until [] fails = []
 calls_until (call ∷ calls) zero = call ∷ calls
 calls_until (call ∷ calls) (suc zero) = failing call ∷ []
 calls_until (call ∷ calls) (suc (suc fails)) = call ∷ calls_until calls (suc fails)
 
--- A disk in memory that lists its calls and fails one: the disk under it, the number of the call that fails (counted
--- from 1; 0 for none), the calls in order, whether memory was refused for one, and its own counts.
+-- A disk in memory that lists its calls and fails one. `fails_at` is the number of that call, counted from 1, or 0 if
+-- none fails. `refused` is whether the disk ran out of memory for a call. `made` and `faults` are its own counts.
 pub record ListedDisk : Type 0 where
   pub inner : Recorded
   pub fails_at : ℕ
@@ -61,7 +60,7 @@ pub record ListedDisk : Type 0 where
   pub made : ℕ
   pub faults : ℕ
 
--- the same, by the fields of one
+-- a listed disk with these fields
 abbrev pub listed_as : {A : Type 0} → Recorded → ℕ → List (Call A) → Bool → ℕ → ℕ → ListedDisk
 listed_as inner fails_at calls refused made faults = record {
   inner = inner;
@@ -72,7 +71,7 @@ listed_as inner fails_at calls refused made faults = record {
   faults = faults;
 }
 
--- none of its calls made yet
+-- a disk of which no call has been made
 abbrev pub listing : Recorded → ℕ → ListedDisk
 listing inner fails_at = record {
   inner = inner;
@@ -83,18 +82,18 @@ listing inner fails_at = record {
   faults = 0;
 }
 
--- the next call is the one that fails
+-- whether the next call is the call that fails
 abbrev pub is_due : ListedDisk → Bool
 is_due disk = disk.made + 1 == disk.fails_at
 
--- what a call changes of the disk under it: a read and a write are passed on also where they fail, a sync isn't
+-- The inner disk after a call. A read or a write that fails is still passed on to it. A sync that fails isn't.
 abbrev pub changed_as : CallKind → Recorded → DeviceCall → Recorded
 changed_as Read disk call = after_read disk
 changed_as Write disk call = after_change disk (write call.at call.written)
 changed_as Sync disk call = if call.failed then disk else after_change disk sync
 
--- A call was made: it is counted, and so is its failure; where memory wasn't refused for it or for one before it, it is
--- listed, as the last, it failed exactly if it was due, and the disk under it has its change.
+-- A call was made, and it and its failure are counted. The rest holds unless memory was refused, for this call or an
+-- earlier one. The call is listed last, it failed exactly if it was due, and the inner disk has its change.
 pub record ListsCall (call : DeviceCall) (old new : ListedDisk) : Type 0 where
   pub fails_at : new.fails_at ≡ old.fails_at
   pub made : new.made ≡ raised old.made
@@ -104,7 +103,7 @@ pub record ListsCall (call : DeviceCall) (old new : ListedDisk) : Type 0 where
   pub due : new.refused ≡ false → call.failed ≡ is_due old
   pub inner : new.refused ≡ false → new.inner ≡ changed_as call.kind old.inner call
 
--- the writes and syncs of calls that a disk in memory records after these older ones, the newest first
+-- the writes and syncs that the inner disk records for calls, after these older ones, with the newest first
 abbrev pub change_by : CallKind → DeviceCall → List DiskChange → List DiskChange
 change_by Read call older = older
 change_by Write call older = write call.at call.written ∷ older
@@ -114,21 +113,20 @@ abbrev pub changes_by : List DeviceCall → List DiskChange → List DiskChange
 changes_by [] older = older
 changes_by (call ∷ calls) older = changes_by calls (change_by call.kind call older)
 
--- whether the disk under it counts the call: all but a sync that failed
+-- whether the inner disk counts the call: each call except a sync that failed
 abbrev pub is_passed_on : CallKind → Bool → Bool
 is_passed_on Read failed = true
 is_passed_on Write failed = true
 is_passed_on Sync failed = not failed
 
--- the length of a write is that of its bytes, a read writes none, and a sync has no place
+-- A read writes no bytes, the length of a write is that of its bytes, and a sync has neither place nor length.
 abbrev pub HasItsLength : CallKind → DeviceCall → Type 0
 HasItsLength Read call = call.written ≡ []
 HasItsLength Write call = call.len ≡ length call.written
 HasItsLength Sync call = (call.at ≡ 0) × (call.len ≡ 0) × (call.written ≡ [])
 
--- The list is that of the calls. It has the number of calls that the disk counted, and of failed ones. The disk in
--- memory under it, which was new, recorded their writes and syncs in order, with their places and bytes, and nothing
--- else; it counted these and the reads.
+-- The list agrees with the disk's counts of calls and of failures. The inner disk, which was new, recorded exactly the
+-- listed writes and successful syncs, in order, with their places and bytes. It counted these calls and the reads.
 pub record ListsItsCalls (disk : ListedDisk) : Type 0 where
   pub count : disk.made ≡ length disk.calls
   pub faults : disk.faults ≡ count_by (λ call. call.failed) disk.calls

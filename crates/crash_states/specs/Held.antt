@@ -2,7 +2,6 @@
 use Rattle.crash_states.specs.declared.choice.Contents.{Contents}
 use Rattle.crash_states.specs.Choices.{Content}
 
--- what it holds
 abbrev pub content_of : {A : Type 0} → Contents A → Content
 content_of contents = record {
   synced = contents.synced.items;

@@ -1,4 +1,4 @@
--- Which part of a volume with a log a block is. The starts, the positions of the log and the files are counted from 0.
+-- Which part of a volume with a log a block is. Starts, positions in the log, and files are counted from 0.
 use Rattle.std.specs.Prelude.{ℕ, ◌≡◌, ◌+◌, ◌<◌, ◌≤◌, length, slice_index}
 use Rattle.volume_codec.specs.Super.{capacities_in, pages_of, first_home_of}
 use Rattle.log_codec.specs.Log.{first_log_home, ring_block}
@@ -9,20 +9,20 @@ use Rattle.crash_states.specs.declared.part.Part.{Part}
 use Rattle.crash_states.specs.declared.part.Part.TheVariants as parts
 use Rattle.crash_states.specs.Parts.{IsPartOf}
 
--- The block is the home block of this page of this file. It lies behind the one that the table says by the blocks of
--- the log and one for the lengths.
+-- The block is the home block of this page of this file. It comes `ring + 1` blocks later than in layout 1 with one
+-- slot: the blocks of the log, and one block for the lengths.
 pub record IsLogHomeOf (v : LogSuperValue) (file page block : ℕ) : Type 0 where
   pub there : file < length v.files
   pub within : page < pages_of (slice_index (capacities_in (table_of v)) file)
   pub placed : block ≡ first_home_of (table_of v) file + page + (v.ring + 1)
 
--- the block is a home block, and of no page of a file
+-- The block is a home block, but of no page of a file.
 pub record IsOfNoLogFile (v : LogSuperValue) (block : ℕ) : Type 0 where
   pub low : first_log_home v.ring ≤ block
   pub high : block < (log_of v).blocks
   pub none : (file page : ℕ) → IsLogHomeOf v file page block → ⊥
 
--- the block is this part of a volume with a log
+-- The block is this part of a volume with a log.
 abbrev pub IsLogPartOf : LogSuperValue → ℕ → Part → Type 0
 IsLogPartOf v block parts.Super = block ≡ 0
 IsLogPartOf v block parts.Selector = block ≡ 1
@@ -35,7 +35,7 @@ IsLogPartOf v block (parts.Gate j) = ⊥
 IsLogPartOf v block (parts.Descriptor j) = ⊥
 IsLogPartOf v block (parts.Record j i) = ⊥
 
--- the block is this part of a volume in any layout
+-- The block is this part of a volume in any layout.
 abbrev pub IsAnyPartOf : {Z : Type 0} → VolumePlaces Z → ℕ → Part → Type 0
 IsAnyPartOf (Journals places) block part = IsPartOf places.table block part
 IsAnyPartOf (Log places) block part = IsLogPartOf places.table block part

@@ -1,4 +1,4 @@
--- The device calls of a run, as a disk in memory has them that lists the calls that are made of it.
+-- The device calls of a run, as listed by a disk in memory.
 use Rattle.std.specs.Prelude.{ℕ, ◌≡◌, false, List, [], ◌∷◌, ⊤, if◌then◌else◌, nat_le, ◌+◌}
 use Rattle.device.specs.declared.device.Device.{Ghosts}
 use Rattle.device.specs.Memory.{new_disk, seen_of, may_leave_of, moment_of, left_since_of}
@@ -10,7 +10,7 @@ use Rattle.machine.specs.State.{Whole}
 use Rattle.engine.specs.Engine.{HasRun, HasStarted}
 use Rattle.crash_states.specs.Calls.{DeviceCall, ListedDisk, ListsItsCalls, listing}
 
--- what a disk says, said of the one in memory that lists its calls
+-- the definitions of a device, for the disk in memory that lists its calls
 abbrev pub listing_memory : Ghosts ListedDisk
 listing_memory = record {
   seen = λ disk. seen_of disk.inner;
@@ -23,7 +23,7 @@ listing_memory = record {
   is_honest = λ disk. ⊤;
 }
 
--- these replies to these steps, with so many calls in all after each of them, as they are counted on the device
+-- The steps were answered with these replies. After each step, the device had counted the number of calls in `counts`.
 abbrev pub StepsCountedBy : {D : Type 0} → Ghosts D → (D → ℕ) → Whole D → List Step → List Reply → List ℕ → Whole D
     → Type 0
 StepsCountedBy disk calls old [] [] [] new = new ≡ old
@@ -32,12 +32,12 @@ StepsCountedBy {D} disk calls old (step ∷ steps) (reply ∷ replies) (count �
     × StepsCountedBy disk calls mid steps replies counts new
 StepsCountedBy disk calls old steps replies counts new = ⊥
 
--- the same, with the calls of the device
+-- the same, with the number of calls that were made of the device
 abbrev pub StepsCounted : {D : Type 0} → Ghosts D → Whole D → List Step → List Reply → List ℕ → Whole D → Type 0
 StepsCounted disk old steps replies counts new = StepsCountedBy disk disk.calls_made old steps replies counts new
 
--- A run was made on a disk in memory that lists its calls: these were its replies, the numbers of calls after each, and
--- all its calls, in order, with what they did, where, and what they wrote. None of them failed.
+-- A run was made on a disk in memory that lists its calls. It had these replies, these numbers of calls after each
+-- step, and these calls, in order. None of the calls failed.
 pub record AreMade (before : ListedDisk) (shape : Shape) (steps : List Step) (replies : List Reply) (counts : List ℕ)
     (calls : List DeviceCall) : Type 0 where
   pub start : Whole ListedDisk
@@ -50,12 +50,13 @@ pub record AreMade (before : ListedDisk) (shape : Shape) (steps : List Step) (re
   pub listed : calls ≡ last.device.calls
   pub are_its : ListsItsCalls last.device
 
--- these are the replies and the device calls of a run on a disk with these bytes
+-- These are the replies, counts and device calls of a run on a disk with these bytes.
 abbrev pub AreCallsOf : List ℕ → Shape → List Step → List Reply → List ℕ → List DeviceCall → Type 0
 AreCallsOf image shape steps replies counts calls =
     AreMade (listing (new_disk image) 0) shape steps replies counts calls
 
--- how many steps were answered before the device call of this number, by the numbers of calls after each step
+-- the number of steps that were answered before the device call of this number, if `counts` has the number of calls
+-- after each step
 abbrev pub steps_before : List ℕ → ℕ → ℕ
 steps_before [] call = 0
 steps_before (count ∷ counts) call = if nat_le call count then 0 else steps_before counts call + 1

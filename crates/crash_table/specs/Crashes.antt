@@ -1,4 +1,4 @@
--- What a crash within a run leaves: the files at one of its marks.
+-- What a crash within a run leaves: the files at one of the run's marks.
 use Rattle.std.specs.Prelude.{ℕ, ◌≡◌, ◌⊎◌, ◌≤◌, ◌<◌, false, List, [], ◌∷◌, ◌++◌, length, take}
 use Rattle.device.specs.declared.device.Device.{Ghosts}
 use Rattle.device.specs.Memory.{Recorded, new_disk, seen_of, may_leave_of, after_stop}
@@ -15,24 +15,23 @@ use Rattle.engine.specs.Engine.{HasRun, HasNotStarted}
 use Rattle.crash_states.specs.Calls.{DeviceCall, ListedDisk, ListsItsCalls, calls_until, listing}
 use Rattle.crash_table.specs.Calls.{listing_memory}
 
--- what can be read off steps and replies of a machine of this shape, over a volume with these files: what was stored,
--- marked and acknowledged
+-- The history of a machine of this shape over a volume with these files: what can be read off its steps and replies.
 abbrev pub history_of : List File → Shape → List Step → List Reply → List Event
 history_of files shape steps replies = (observe_all (observed_at_start files shape.cpus) steps replies).history
 
--- A run ended so, after as many steps as there are replies; or a device call failed as the volume was opened, and no
--- step was made.
+-- A run ended with these replies, one for each step that was made. Or a device call failed while the volume was opened,
+-- and no step was made.
 abbrev pub HasEnded : {D : Type 0} → Ghosts D → D → Shape → List Step → List Reply → D → Type 0
 HasEnded disk before shape steps replies after = HasRun disk before shape (take (length replies) steps) replies after
     ⊎ ((replies ≡ []) × HasNotStarted disk before shape after Device)
 
--- Events end with the mark of this number; at 0 there are none.
+-- The events end with the mark of this number. The number is 0 if there are no events.
 abbrev pub EndsAt : ℕ → List Event → Type 0
 EndsAt number events = ((number ≡ 0) × (events ≡ []))
     ⊎ ((front : List Event) × (events ≡ front ++ Mark number ∷ []))
 
--- The found files are those at the mark of this number: the files after a part of the history that ends with it, begins
--- where the history does, and has every mark that was acknowledged. Of several marks with these files it is the newest.
+-- The found files are those after a durable prefix of the history that ends with the mark `number`. If several marks
+-- have these files, it is the newest.
 pub record IsAtMark (files : List File) (history : List Event) (found : List File) (number : ℕ) : Type 0 where
   pub prefix : List Event
   pub durable : IsDurablePrefix prefix history
@@ -41,18 +40,17 @@ pub record IsAtMark (files : List File) (history : List Event) (found : List Fil
   pub newest : (other : List Event) → IsDurablePrefix other history → found ≡ files_after files other
       → length other ≤ length prefix
 
--- A run was made up to the device call of one number, counted from 1. That call failed, no other did, and it was the
--- last. Or there is none of this number: then no call failed, and all steps were made. Its calls are those of the whole
--- run up to there, each with what it did, its place, its length and its bytes.
+-- A run was made up to the device call of number `fails`, counted from 1, which failed. No other call failed. If there
+-- is no such call, no call failed, and all steps were made. The calls up to there are those of the whole run.
 pub record IsUpTo (calls : List DeviceCall) (fails : ℕ) (steps : List Step) (replies : List Reply) (after : ListedDisk)
     : Type 0 where
   pub made : after.calls ≡ calls_until calls fails
   pub failed : 0 < fails → fails ≤ length calls → (after.made ≡ fails) × (after.faults ≡ 1)
   pub whole : (fails ≡ 0) ⊎ (length calls < fails) → (after.faults ≡ 0) × (length replies ≡ length steps)
 
--- A run was made up to the device call of one number, or to its end where there is none, and each of its calls is
--- listed. Then a crash left this choice in the places that were written and not synced: what the disk holds is one of
--- the contents that it may leave.
+-- A run was made up to the device call of number `fails`, or to its end if there is no such call. The disk listed each
+-- of its calls. Then a crash left this choice in the places that were written and not synced. The content of `disk` is
+-- one that this crash may leave.
 pub record IsStopped (calls : List DeviceCall) (fails : ℕ) (steps : List Step) (replies : List Reply) (choice : List ℕ)
     (after : ListedDisk) (disk : Recorded) : Type 0 where
   pub complete : after.refused ≡ false
@@ -61,10 +59,10 @@ pub record IsStopped (calls : List DeviceCall) (fails : ℕ) (steps : List Step)
   pub stopped : disk ≡ after_stop after.inner choice
   pub left : may_leave_of after.inner (seen_of disk)
 
--- A run with these device calls was made on a disk in memory with these bytes, up to the call of one number, which
--- failed, or to its end where there is none of that number. Then a crash left this choice in the places that were
--- written and not synced, which is one of the contents that it may leave. It recovers to the files at the mark of this
--- number, by what can be read off the replies before the call failed.
+-- A run with these device calls was made on a disk in memory with these bytes. It was made up to the call of number
+-- `fails`, which failed, or to its end if there is no such call. Then a crash left this choice in the places that were
+-- written and not synced, which it may leave. The disk then recovers to the files at the mark `number`, by the history
+-- before the call failed.
 pub record LeavesMark (image : List ℕ) (shape : Shape) (steps : List Step) (calls : List DeviceCall) (fails : ℕ)
     (choice : List ℕ) (number : ℕ) : Type 0 where
   pub replies : List Reply

@@ -1,4 +1,4 @@
--- The files at the marks of a run, by its steps and replies.
+-- The files at the marks of a run, which follow from its steps and replies.
 use Rattle.std.specs.Prelude.{ℕ, ◌≡◌, ◌<◌, ◌≤◌, ◌+◌, ◌⊎◌, List, [], ◌∷◌, ◌++◌, length, take, map, slice_get, Some}
 use Rattle.volume_codec.specs.Files.{File}
 use Rattle.volume_codec.specs.Recovery.{RecoversTo}
@@ -10,12 +10,12 @@ use Rattle.history.specs.History.{Event, Mark, files_after}
 use Rattle.crash_table.specs.Crashes.{history_of}
 use Rattle.crash_table.specs.Trials.{TrialValue}
 
--- the history up to the mark that the step of this index made, and with it
+-- the history up to the mark that the step of this index made, with that mark
 abbrev pub up_to_mark : List File → Shape → List Step → List Reply → ℕ → ℕ → List Event
 up_to_mark files shape steps replies i number =
     history_of files shape (take i steps) (take i replies) ++ Mark number ∷ []
 
--- the bytes of each file, and those at that mark
+-- the bytes of each file; and the bytes of each file at that mark
 abbrev pub contents_of : List File → List (List ℕ)
 contents_of files = map (λ f. f.bytes) files
 
@@ -23,12 +23,12 @@ abbrev pub bytes_at : List File → Shape → List Step → List Reply → ℕ �
 bytes_at files shape steps replies i number =
     contents_of (files_after files (up_to_mark files shape steps replies i number))
 
--- no mark from the step of this index on has files with these bytes
+-- No mark that the step of index `first` or a later step made has files with these bytes.
 abbrev pub NoneFrom : List File → Shape → List Step → List Reply → List (List ℕ) → ℕ → Type 0
 NoneFrom files shape steps replies bytes first = (i number : ℕ) → first ≤ i → slice_get replies i ≡ Some (Marked number)
     → bytes ≡ bytes_at files shape steps replies i number → ⊥
 
--- this is the newest mark whose files have these bytes, or 0, and no mark has
+-- `number` is the newest mark whose files have these bytes, or 0 if no mark has.
 abbrev pub IsNewest : List File → Shape → List Step → List Reply → List (List ℕ) → ℕ → Type 0
 IsNewest files shape steps replies bytes number =
     ((number ≡ 0) × NoneFrom files shape steps replies bytes 0)
@@ -36,8 +36,8 @@ IsNewest files shape steps replies bytes number =
     × (bytes ≡ bytes_at files shape steps replies at number)
     × NoneFrom files shape steps replies bytes (at + 1))
 
--- The newest mark that these replies report whose files have these bytes, or 0, and no mark has: the files are those
--- after the stores of the trial's steps in the files that its disk recovers to before it.
+-- Among the marks that these replies report, `number` is the newest whose files have these bytes, or 0 if none has. The
+-- run starts with the files to which the trial's disk recovers.
 abbrev pub IsMarkOf : TrialValue → List Reply → List (List ℕ) → ℕ → Type 0
 IsMarkOf trial replies bytes number = (files : List File) → RecoversTo trial.image files
     → IsNewest files trial.shape trial.steps replies bytes number

@@ -1,4 +1,4 @@
--- A disk whose writes and syncs are recorded for somebody else to make, over the blocks of 4,096 bytes that it knows.
+-- A disk whose writes and syncs are recorded for its host to make. It knows some of its blocks of 4,096 bytes.
 use Rattle.std.specs.Prelude.{◌≡◌, ⊤, ℕ, zero, suc, ◌+◌, ◌-◌, ◌*◌, ◌/◌, ◌^◌, min, Bool, true, false}
 use Rattle.std.specs.Prelude.{if◌then◌else◌, Option, Some, None, List, [], ◌∷◌, ◌++◌, length, take}
 use Rattle.std.specs.Prelude.{drop, replicate, get_or, set, slice_get, slice_range, nat_lt, ◌&&◌, ◌||◌}
@@ -8,9 +8,9 @@ use Rattle.device.specs.Memory.{DiskChange, Recorded, seen_of, may_leave_of, mom
 use Rattle.device.specs.Memory.DiskChange.{write, sync}
 use Rattle.device.specs.Work.{Work, WriteAt, Sync, Nothing, TornByWork, TornFromWork}
 
--- What the disk held at first; its writes and syncs with the last one first, of which as many as wait, the newest,
--- aren't carried out yet; which blocks are known; each block that was supplied, beside what the disk had there then;
--- which block the last call lacked; and the counts.
+-- A disk with its `first` content, and its writes and syncs since then, the newest first. The newest `waiting` of these
+-- aren't carried out yet. `known` marks the known blocks. `supplied` pairs each supplied block with the bytes that the
+-- disk had there then. `wanted` is the block that the last call lacked. `calls` and `faults` are counts.
 pub record Deferred : Type 0 where
   pub first : List ℕ
   pub changes : List DiskChange
@@ -21,7 +21,7 @@ pub record Deferred : Type 0 where
   pub calls : ℕ
   pub faults : ℕ
 
--- of this content and this many blocks none of which is known, and none of its calls made yet
+-- A disk with this content and this many blocks. No block is known, and no call was made.
 abbrev pub deferred : List ℕ → ℕ → Deferred
 deferred content blocks = record {
   first = content;
@@ -34,7 +34,7 @@ deferred content blocks = record {
   faults = 0;
 }
 
--- It is a disk in memory with these writes and syncs.
+-- the disk as a disk in memory that made these writes and syncs
 abbrev pub as_memory : Deferred → Recorded
 as_memory disk = record {
   first = disk.first;
@@ -44,7 +44,7 @@ as_memory disk = record {
   faults = disk.faults;
 }
 
--- the same before its oldest waiting call
+-- the same before the oldest waiting call
 abbrev pub carried_out : Deferred → Recorded
 carried_out disk = record {
   first = disk.first;
@@ -54,51 +54,50 @@ carried_out disk = record {
   faults = disk.faults;
 }
 
--- each of these pairs has two equal lists
+-- Each of these pairs consists of two equal lists.
 abbrev pub AreAlike : List (List ℕ × List ℕ) → Type 0
 AreAlike [] = ⊤
 AreAlike (pair ∷ pairs) = (pair.0 ≡ pair.1) × AreAlike pairs
 
--- each block that was supplied was what the disk had there
+-- The host supplied each block as the disk had it.
 abbrev pub IsSuppliedWell : Deferred → Type 0
 IsSuppliedWell disk = AreAlike disk.supplied
 
--- the bytes of a block
 abbrev pub block_of : List ℕ → ℕ → List ℕ
 block_of bytes block = slice_range bytes (4096 * block) (4096 * block + 4096)
 
--- the first of n blocks from this one on that isn't known
+-- the first unknown block among n blocks from `block` on
 abbrev pub first_unknown : List Bool → ℕ → ℕ → Option ℕ
 first_unknown known block zero = None
 first_unknown known block (suc n) = if get_or known block false then first_unknown known (block + 1) n else Some block
 
--- the blocks from one up to another, without that one, are known, too
+-- the known blocks, with those from `from` to `to - 1` added
 abbrev pub with_known : List Bool → ℕ → ℕ → List Bool
 with_known known from to = take from known ++ replicate (to - from) true ++ drop to known
 
--- the first block, and the one behind the last, of n bytes from an offset on
+-- the first block of a range, and the block after the last one of n bytes from an offset on
 abbrev pub first_block : ℕ → ℕ
 first_block at = at / 4096
 
 abbrev pub end_block : ℕ → ℕ → ℕ
 end_block at n = div_ceil (at + n) 4096
 
--- the first block that isn't known of those that a read reaches
+-- the first unknown block among those that a read reaches
 abbrev pub lacked_by_read : List Bool → ℕ → ℕ → Option ℕ
 lacked_by_read known at n = first_unknown known (first_block at) (end_block at n - first_block at)
 
--- one where there is one, else the other
+-- the first option if it has a block, and otherwise the second
 abbrev pub or_else : Option ℕ → Option ℕ → Option ℕ
 or_else (Some block) other = Some block
 or_else None other = other
 
--- the first block that isn't known of those that a write covers in part: the one in which it begins, if that is before
--- its offset, and the one in which it ends, if that goes on
+-- The first unknown block among those that a write covers only in part. These can be the block in which it begins, and
+-- the block in which it ends.
 abbrev pub lacked_by_write : List Bool → ℕ → ℕ → Option ℕ
 lacked_by_write known at n = or_else (first_unknown known (at / 4096) (div_ceil at 4096 - at / 4096))
     (first_unknown known ((at + n) / 4096) (div_ceil (at + n) 4096 - (at + n) / 4096))
 
--- after a read that lacked a block or none, and so failed or succeeded
+-- the disk after a read that lacked this block, or none, and that succeeded or failed
 abbrev pub after_read : Deferred → Option ℕ → Bool → Deferred
 after_read disk lacked done = record disk {
   wanted = lacked;
@@ -106,7 +105,7 @@ after_read disk lacked done = record disk {
   faults = if done then disk.faults else raised disk.faults;
 }
 
--- after a write: the blocks that it reaches are known
+-- the disk after a write: the blocks that it reaches are known
 abbrev pub after_write : Deferred → ℕ → List ℕ → Deferred
 after_write disk at bytes = record disk {
   changes = write at bytes ∷ disk.changes;
@@ -124,7 +123,7 @@ after_sync disk = record disk {
   calls = raised disk.calls;
 }
 
--- after a write or a sync that failed: it lacked a block, or was refused memory
+-- the disk after a write or a sync that failed, because it lacked a block or memory
 abbrev pub after_refusal : Deferred → Option ℕ → Deferred
 after_refusal disk lacked = record disk {
   wanted = lacked;
@@ -132,32 +131,31 @@ after_refusal disk lacked = record disk {
   faults = raised disk.faults;
 }
 
--- after a block was supplied: one that is known stays
+-- The disk after a block was supplied. A block that is known already stays as it is.
 abbrev pub after_supply : Deferred → ℕ → List ℕ → Deferred
 after_supply disk block bytes = if get_or disk.known block false then disk else record disk {
   known = with_known disk.known block (block + 1);
   supplied = (bytes, block_of (seen_of (as_memory disk)) block) ∷ disk.supplied;
 }
 
--- a change writes to a block
+-- whether a change writes to a block
 abbrev pub reaches : DiskChange → ℕ → Bool
 reaches (write at bytes) block = nat_lt at (4096 * block + 4096) && nat_lt (4096 * block) (at + length bytes)
 reaches sync block = false
 
--- one of these changes does
+-- whether one of these changes writes to a block
 abbrev pub one_reaches : List DiskChange → ℕ → Bool
 one_reaches [] block = false
 one_reaches (change ∷ older) block = reaches change block || one_reaches older block
 
--- a block isn't known any more
+-- the disk after a block was forgotten: it isn't known any more
 abbrev pub after_forget : Deferred → ℕ → Deferred
 after_forget disk block = record disk { known = set disk.known block false }
 
--- with this many waiting calls
 abbrev pub with_waiting : Deferred → ℕ → Deferred
 with_waiting disk waiting = record disk { waiting = waiting }
 
--- the change that was made before these newer ones
+-- the oldest of the n newest changes
 abbrev pub made_before : ℕ → List DiskChange → Option DiskChange
 made_before zero changes = None
 made_before (suc newer) changes = slice_get changes newer
@@ -166,26 +164,26 @@ made_before (suc newer) changes = slice_get changes newer
 abbrev pub oldest_call : Deferred → Option DiskChange
 oldest_call disk = made_before disk.waiting disk.changes
 
--- the call that waits behind so many others that wait
+-- the waiting call after `others` older waiting calls
 abbrev pub waits_behind : ℕ → Deferred → Option DiskChange
 waits_behind others disk = made_before (disk.waiting - others) disk.changes
 
--- what it asks of a device
+-- the work that a call asks of a device
 abbrev pub done_by : Option DiskChange → Work
 done_by None = Nothing
 done_by (Some (write at bytes)) = WriteAt at bytes
 done_by (Some sync) = Sync
 
--- How many writes and syncs were recorded. A count that has come to 2^64-1 stays there.
+-- The number of recorded writes and syncs. It stays at 2^64-1 once it is that large.
 abbrev pub recorded_calls : Deferred → ℕ
 recorded_calls disk = min (length disk.changes) (2 ^ 64 - 1)
 
--- The moment at which the oldest waiting call was recorded: so many calls were carried out.
+-- The moment at which the oldest waiting call was recorded: the number of calls that were carried out.
 abbrev pub carried_moment : Deferred → ℕ
 carried_moment disk = moment_of (as_memory disk) - disk.waiting
 
--- An honest device is where this disk was before its oldest waiting call. Where that call is a write, it may have been
--- tried on the device and have failed: its range may have any bytes.
+-- An honest device is in the state of this disk before its oldest waiting call. If that call is a write, it may have
+-- been tried on the device and failed. Then its range may contain any bytes.
 pub record IsBehind {D : Type 0} (is_honest : D → Type 0) (seen : D → List ℕ) (may_leave : D → List ℕ → Type 0)
     (device : D) (disk : Deferred) : Type 0 where
   pub honest : is_honest device

@@ -1,4 +1,4 @@
--- A call that a disk lends to its host, as the record has it.
+-- A call that a disk lends to its host, as a recorded change.
 use Rattle.device.specs.Memory.{DiskChange}
 use Rattle.device.specs.Memory.DiskChange.{write, sync}
 use Rattle.deferred_disk.specs.declared.deferred.DeferredCall.{DeferredCall}

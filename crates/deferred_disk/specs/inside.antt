@@ -1,4 +1,4 @@
--- What ties private code to the definitions that public clauses name.
+-- Definitions that connect private code with the definitions in public contracts.
 pub mod Blocks
 pub mod Deferring
 pub mod Waiting

@@ -1,23 +1,23 @@
--- A disk one of whose calls fails.
+-- A disk that fails one of its calls.
 use Rattle.std.specs.Prelude.{◌≡◌, ℕ, ◌+◌, ◌-◌, ◌^◌, ◌<◌, Bool, if◌then◌else◌, List, replicate, Result, IsOk, IsErr}
 use Rattle.device.specs.Count.{raised}
 
--- the disk that it stands over, which of its calls fails (counted from 1; 0 for none), and its own counts
+-- The inner disk, the number of the call that fails (counted from 1, or 0 if none does), and the disk's own counts.
 pub record Failing (D : Type 0) : Type 0 where
   pub inner : D
   pub fails_at : ℕ
   pub calls : ℕ
   pub faults : ℕ
 
--- none of its calls made yet
+-- a disk of which no call has been made
 abbrev pub failing : {D : Type 0} → D → ℕ → Failing D
 failing inner fails_at = record { inner = inner; fails_at = fails_at; calls = 0; faults = 0 }
 
--- the next call is the one that fails
+-- The next call is the call that fails.
 abbrev pub IsDue : {D : Type 0} → Failing D → Type 0
 IsDue disk = disk.calls + 1 ≡ disk.fails_at
 
--- after a call that succeeded or failed, and left the inner disk so
+-- the disk after a call that left the inner disk in this state, and that succeeded or failed
 abbrev pub after_call : {D : Type 0} → Failing D → D → Bool → Failing D
 after_call disk inner done = record disk {
   inner = inner;
@@ -25,7 +25,7 @@ after_call disk inner done = record disk {
   faults = if done then disk.faults else raised disk.faults;
 }
 
--- The call was passed on: the inner disk counts one call, and a fault where it failed.
+-- The call was passed on: the inner disk counts one call, and one fault if the call failed.
 pub record IsPassedOn {D T E : Type 0} (calls_made faults_met : D → ℕ) (old new : D)
     (result : Result T E) : Type 0 where
   pub calls : calls_made old < 2 ^ 64 - 1 → calls_made new ≡ calls_made old + 1

@@ -1,15 +1,15 @@
--- What is asked of a device, and what that makes of its bytes.
+-- Work for a device, and its effect on the device's bytes.
 use Rattle.std.specs.Prelude.{ℕ, ◌≡◌, ◌+◌, ◌*◌, ◌⊎◌, List, length, take, drop}
 use Rattle.device.specs.Device.{written, Torn, TornFrom}
 
 pub data Work : Type 0 where
-  -- these bytes are written at this offset
+  -- The bytes are written at this offset.
   WriteAt : (at : ℕ) (bytes : List ℕ) → Work
-  -- the block of 4,096 bytes at one place is read and written at another, where block i begins at 4,096 times i
+  -- The block `from` is read, and written at the block `to`. Block i begins at byte 4,096 * i.
   CopyBlock : (from to : ℕ) → Work
-  -- what was written is made sure
+  -- Everything that was written is made durable.
   Sync : Work
-  -- no call is made
+  -- No call is made.
   Nothing : Work
 
 -- the bytes after work whose calls succeed
@@ -19,28 +19,29 @@ worked disk (CopyBlock from to) = written disk (4096 * to) (take 4096 (drop (409
 worked disk Sync = disk
 worked disk Nothing = disk
 
--- the bytes after work of which a call failed: any bytes where it writes
+-- The bytes after work with a failed call: the range that the work writes may contain any bytes.
 abbrev pub TornByWork : Work → List ℕ → List ℕ → Type 0
 TornByWork (WriteAt at bytes) disk new = Torn at (length bytes) disk new
 TornByWork (CopyBlock from to) disk new = Torn (4096 * to) 4096 disk new
 TornByWork Sync disk new = new ≡ disk
 TornByWork Nothing disk new = new ≡ disk
 
--- what a crash may leave within the work, or after it where no sync made it sure, of what it might have left before
+-- The list c is what a crash may leave within the work, or after it and before a sync. `lists` are those that a crash
+-- might have left before the work.
 abbrev pub TornFromWork : Work → (List ℕ → Type 0) → List ℕ → Type 0
 TornFromWork (WriteAt at bytes) lists c = TornFrom at (length bytes) lists c
 TornFromWork (CopyBlock from to) lists c = TornFrom (4096 * to) 4096 lists c
 TornFromWork Sync lists c = lists c
 TornFromWork Nothing lists c = lists c
 
--- how many device calls the work makes
+-- the number of device calls that the work makes
 abbrev pub calls_of : Work → ℕ
 calls_of (WriteAt at bytes) = 1
 calls_of (CopyBlock from to) = 2
 calls_of Sync = 1
 calls_of Nothing = 0
 
--- how many were made before the work and after it, where one of them failed: of a copy the read alone, or both
+-- The numbers of calls before and after work of which a call failed. A copy may have made only the read, or both calls.
 abbrev pub HasFailed : Work → ℕ → ℕ → Type 0
 HasFailed (WriteAt at bytes) old new = new ≡ old + 1
 HasFailed (CopyBlock from to) old new = (new ≡ old + 1) ⊎ (new ≡ old + 2)

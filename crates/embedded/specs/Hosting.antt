@@ -7,8 +7,8 @@ use Rattle.pager.specs.State.{PagerState}
 use Rattle.pager.specs.Runs.{ReadsBackAmong}
 use Rattle.embedded.specs.Embedded.{HasPassedMark}
 
--- These bytes read back as the files after a durable prefix of the history up to where this mark was acknowledged, and
--- of some later events; and that prefix has the mark.
+-- These bytes read back as the files after a durable prefix that contains the mark. It is a durable prefix of the
+-- history up to the mark's acknowledgement and some of the later events.
 pub record KeepsMark (files : List File) (mark : ℕ) (pager : PagerState Deferred)
     (reached : HasPassedMark files mark pager) (c : List ℕ) : Type 0 where
   pub among : ReadsBackAmong files reached.earlier reached.later c

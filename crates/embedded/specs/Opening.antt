@@ -1,4 +1,4 @@
--- What an opening makes of a disk.
+-- The result of opening a disk.
 use Rattle.std.specs.Prelude.{◌≡◌, ℕ, ⊤, false, get_or, min, Ok, Some}
 use Rattle.deferred_disk.specs.Deferred.{Deferred, after_read}
 use Rattle.volume_codec.specs.Layout.{max_frames}
@@ -10,7 +10,7 @@ use Rattle.embedded.specs.declared.reading.Unread.TheVariants.{Wanted, Refused}
 use Rattle.embedded.specs.Embedded.{EmbeddedState, just_opened}
 use Rattle.embedded.specs.Recorded.{deferred_disk}
 
--- an open volume, as an opening of this disk leaves it, where a commit takes so many pages of files at most
+-- An open volume after an opening of this disk. A commit takes at most `most` pages of files.
 abbrev pub OpensVolume : Deferred → (most : ℕ) → EmbeddedState → Type 0
 OpensVolume disk most e =
     Opens deferred_disk disk (Ok e.pager.table) e.pager.device
@@ -18,7 +18,7 @@ OpensVolume disk most e =
     (min most (max_frames e.pager.table.layout e.pager.table.slots))))
     × IsWellFormed deferred_disk (volume_in e.pager)
 
--- A block is wanted that isn't known. The disk is as it was, but for a read that lacked this block: no call was
+-- If a block is wanted, it isn't known, and the disk only made a read that lacked this block. No write or sync was
 -- recorded.
 abbrev pub KeepsForWanted : Deferred → Unread → Deferred → Type 0
 KeepsForWanted before (Wanted block) after =

@@ -1,10 +1,10 @@
--- A disk whose writes and syncs wait for a host, as the disk that made them at once.
+-- A disk whose writes and syncs wait for a host, as a device of a pager.
 use Rattle.device.specs.declared.device.Device.{Ghosts}
 use Rattle.deferred_disk.specs.Deferred.{Deferred, as_memory, carried_moment, IsSuppliedWell}
 use Rattle.device.specs.Memory.{seen_of, may_leave_of, moment_of, left_since_of}
 
--- A disk of deferred calls, as a pager sees it: what a read gives, and what a crash may leave, is that of the disk in
--- memory that made the calls. It is honest as long as the host supplied each block as it was.
+-- A disk of deferred calls, as a pager sees it. Reads and crashes are those of the disk in memory that made the calls.
+-- The disk is honest as long as the host supplies each block as the disk has it.
 abbrev pub deferred_disk : Ghosts Deferred
 deferred_disk = record {
   seen = λ disk. seen_of (as_memory disk);

@@ -1,3 +1,3 @@
--- What ties private code to the definitions that public clauses name.
+-- Definitions that connect private code with the definitions in public contracts.
 pub mod Awaiting
 pub mod Judging

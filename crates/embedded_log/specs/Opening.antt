@@ -1,4 +1,4 @@
--- What an opening makes of a disk.
+-- The result of opening a disk.
 use Rattle.std.specs.Prelude.{ℕ, ◌≡◌, ◌≢◌, ◌-◌, ◌≤◌, min, Ok, Err}
 use Rattle.page_entry.specs.declared.refusal.Refusal.{Refusal}
 use Rattle.page_entry.specs.declared.refusal.Refusal.TheVariants as refusals
@@ -15,13 +15,13 @@ use Rattle.log_files.specs.State.{fresh_log_files}
 use Rattle.embedded.specs.Recorded.{deferred_disk}
 use Rattle.embedded_log.specs.State.{EmbeddedLogState, log_just_opened}
 
--- a crash within an opening leaves what it might have left before, or what recovers to the same contents
+-- A crash within an opening leaves what it might have left before, or bytes that recover to the same contents.
 abbrev pub LeavesByOpening : Deferred → Deferred → Type 0
 LeavesByOpening before after = IsSuppliedWell before
     → LeavesOnly deferred_disk.moment deferred_disk.left_since before after (LeftByOpeningVolume deferred_disk before)
 
--- An open volume with a log, as an opening of this disk leaves it, where a commit takes at most this many pages of
--- files: as `LogFiles::open`.
+-- An open volume with a log after an opening of this disk, as by `LogFiles::open`. A commit takes at most `most` pages
+-- of files.
 pub record OpensLogVolume (disk : Deferred) (most : ℕ) (e : EmbeddedLogState) : Type 0 where
   pub begins : e ≡ log_just_opened (fresh_log_files e.files.table e.files.lengths e.files.most
       e.files.pager.store.tail.start e.files.pager.store.second e.files.pager.device)
@@ -34,7 +34,7 @@ pub record OpensLogVolume (disk : Deferred) (most : ℕ) (e : EmbeddedLogState) 
   pub crash : LeavesByOpening disk e.files.pager.device
   pub counted : IsCounted {X = LogSuperValue} deferred_disk disk (Ok e.files.table) e.files.pager.device
 
--- A volume with a log isn't opened, for this reason. Nothing was written, unless a device call failed.
+-- The opening of a volume with a log was refused with this refusal. Nothing was written, unless a device call failed.
 pub record RefusesEmbeddedLog (disk : Deferred) (why : Refusal) (after : Deferred) : Type 0 where
   pub reason : IsSuppliedWell disk → RefusesVolume (seen_of (as_memory disk)) why
   pub unwritten : why ≢ refusals.Device → HasWrittenNothing deferred_disk disk after

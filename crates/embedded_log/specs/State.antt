@@ -4,23 +4,22 @@ use Rattle.deferred_disk.specs.Deferred.{Deferred, recorded_calls}
 use Rattle.embedded.specs.Embedded.{acknowledged_by_calls, made_calls}
 use Rattle.log_files.specs.State.{LogFilesState, on_device}
 
--- what they are to their users: the files; the mark of the last commit, and how many device calls were recorded when it
--- was reported; and the last mark that is acknowledged
+-- The state of these files: the files, and the marks of the last commit and of the last acknowledged commit. `due` is
+-- the number of device calls that were recorded when the last commit was reported.
 pub record EmbeddedLogState : Type 0 where
   pub files : LogFilesState Deferred
   pub committed : Option ℕ
   pub due : ℕ
   pub acknowledged : Option ℕ
 
--- as they are over files that were just opened
+-- the state over files that were just opened
 abbrev pub log_just_opened : LogFilesState Deferred → EmbeddedLogState
 log_just_opened files = record { files = files; committed = None; due = 0; acknowledged = None }
 
--- the same with other files
 abbrev pub with_files : EmbeddedLogState → LogFilesState Deferred → EmbeddedLogState
 with_files embedded files = record embedded { files = files }
 
--- after a commit under this mark that led to these files
+-- the state after a commit with this mark, which left these files
 abbrev pub with_log_mark : EmbeddedLogState → ℕ → LogFilesState Deferred → EmbeddedLogState
 with_log_mark embedded mark files = record {
   files = files;
@@ -30,7 +29,7 @@ with_log_mark embedded mark files = record {
       (Some mark) embedded.acknowledged;
 }
 
--- the same over this device, on which the host made a call
+-- the state after the host made a call, which left this device
 abbrev pub with_log_call_made : EmbeddedLogState → Deferred → EmbeddedLogState
 with_log_call_made embedded device = record embedded {
   files = on_device embedded.files device;

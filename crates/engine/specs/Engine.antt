@@ -1,4 +1,4 @@
--- A volume is opened, a machine is booted over it, and steps are made one at a time.
+-- Runs: a volume is opened, a machine is booted over it, and steps are made one at a time.
 use Rattle.std.specs.Prelude.{◌≡◌, ◌↔◌, ◌⊎◌, List, length, Result, Ok, Err}
 use Rattle.device.specs.declared.device.Device.{Ghosts}
 use Rattle.page_entry.specs.declared.refusal.Refusal.{Refusal}
@@ -24,31 +24,31 @@ pub record HasStarted {D : Type 0} (disk : Ghosts D) (before : D) (shape : Shape
   pub shaped : IsShape volume.table shape
   pub booted : start ≡ record { state = fresh volume.table volume.lengths shape; device = volume.device }
 
--- Nothing was run: the opening was refused, or the volume serves no machine of this shape, or memory was refused for
--- one. The device is as the opening left it.
+-- Nothing was run: the opening was refused, or a machine of this shape was refused over the volume. The device is as
+-- the opening left it.
 abbrev pub HasNotStarted : {D : Type 0} → Ghosts D → D → Shape → D → Refusal → Type 0
 HasNotStarted disk before shape after refusal = Opens disk before (Err refusal) after
     ⊎ ((table : SuperValue) × Opens disk before (Ok table) after × RefusesShape table shape refusal)
 
--- the device that is handed back, whether a run was made or refused
+-- the device that is handed back, after a run or a refusal
 abbrev pub handed_back : {D : Type 0} → Result D (Refusal × D) → D
 handed_back (Ok after) = after
 handed_back (Err refused) = refused.1
 
--- the device is as honest and as long as it was: so the same can be done on it again
+-- The device is as honest and as long as before, so that it can be used for the same again.
 pub record KeepsDevice {D : Type 0} (disk : Ghosts D) (before after : D) : Type 0 where
   pub honest : disk.is_honest after ↔ disk.is_honest before
   pub len : length (disk.seen after) ≡ length (disk.seen before)
 
--- A run over a device: a machine was started over its volume, and these steps were made and answered so.
+-- A run over a device: a machine was booted over its volume, and made these steps with these replies.
 pub record HasRun {D : Type 0} (disk : Ghosts D) (before : D) (shape : Shape) (steps : List Step) (replies : List Reply)
     (after : D) : Type 0 where
   pub start : Whole D
   pub last : Whole D
   pub started : HasStarted disk before shape start
-  -- over any device: each reply by the rules, and the device calls of each step
+  -- For any device: each reply obeys the rules, and each step made its device calls.
   pub made : StepsTaken disk start steps replies last
   pub ended : after ≡ last.device
-  -- Over an honest one, what was stored in the files to which it recovered before it was opened survives.
+  -- For an honest device: what was stored survives, from the files to which the device recovered before it was opened.
   pub survives : disk.is_honest before
       → (files : List File) × RecoversTo (disk.seen before) files × Survives disk files before start steps replies last

@@ -20,14 +20,14 @@ use Rattle.embedded.specs.Steps.{Commits, RefusesCommit, WritesOut, RefusesSteps
 
 -- ---- pages and lengths
 
--- the disk of an open volume made this many calls at most, reads alone
+-- The disk of an open volume made exactly this many calls, which were all reads.
 abbrev pub OnlyReads : EmbeddedState → ℕ → EmbeddedState → Type 0
 OnlyReads e calls e' =
     IsOnlyRead deferred_disk e.pager.device e'.pager.device
     × Rises calls e.pager.device.calls e'.pager.device.calls
     × (carried_moment e'.pager.device ≡ carried_moment e.pager.device)
 
--- these bytes of a page were read, or it was refused
+-- These bytes of a page were read, or the request was refused.
 abbrev pub AnswersPage : EmbeddedState → FilePage → Result (List ℕ) Unread → EmbeddedState → Type 0
 AnswersPage e page (Ok bytes) e' =
     (page_refusal e.pager.lengths page ≡ None)
@@ -38,19 +38,19 @@ AnswersPage e page (Err why) e' =
     × ((page_refusal e.pager.lengths page ≡ Some (pager_refusal why))
     ⊎ ((pager_refusal why ≡ refusals.Device) × (page_refusal e.pager.lengths page ≡ None)))
 
--- and nothing changed but the disk, by reads
+-- The request is answered, and only the disk changed, by reads.
 abbrev pub ReadsPage : EmbeddedState → FilePage → Result (List ℕ) Unread → EmbeddedState → Type 0
 ReadsPage e page outcome e' =
     AnswersPage e page outcome e' × OnlyReads e (read_calls e.pager page) e'
     × (e' ≡ with_pager e (over_device e.pager e'.pager.device))
 
--- a whole page was written, or it was refused
+-- A whole page was written, or the request was refused.
 abbrev pub WritesPage : EmbeddedState → FilePage → List ℕ → Result (Unit {0}) Refusal → EmbeddedState → Type 0
 WritesPage e page bytes (Ok done) e' =
     (put_refusal e.pager page ≡ None) × (e' ≡ with_pager e (after_put e.pager page bytes))
 WritesPage e page bytes (Err why) e' = RefusesPut e.pager page why × (e' ≡ e)
 
--- a file got this length, or it was refused and nothing changed but the disk
+-- The file's length was set, or the request was refused and only the disk changed.
 abbrev pub AnswersLength : EmbeddedState → (file length : ℕ) → Result (Unit {0}) Unread → EmbeddedState → Type 0
 AnswersLength e file length (Ok done) e' =
     (set_length_refusal e.pager file length ≡ None)
@@ -60,7 +60,7 @@ AnswersLength e file length (Err why) e' =
     (e'.pager ≡ over_device e.pager e'.pager.device) × ReportsWanted e'.pager.device.wanted why
     × RefusesSetLength e.pager file length (pager_refusal why)
 
--- and the disk made reads alone
+-- The request is answered, and the disk made only reads.
 abbrev pub SetsLength : EmbeddedState → (file length : ℕ) → Result (Unit {0}) Unread → EmbeddedState → Type 0
 SetsLength e file length outcome e' =
     AnswersLength e file length outcome e' × OnlyReads e (length_calls e.pager file length) e'
@@ -68,13 +68,13 @@ SetsLength e file length outcome e' =
 
 -- ---- commits
 
--- a commit of this mark was made, or refused; no block is wanted for it
+-- A commit with this mark was made, or was refused. It never wants a block.
 abbrev pub MakesCommit : EmbeddedState → Result ℕ Unread → EmbeddedState → Type 0
 MakesCommit e (Ok mark) e' = Commits e.pager mark e'.pager × (e' ≡ with_mark e mark e'.pager)
 MakesCommit e (Err (Wanted block)) e' = ⊥
 MakesCommit e (Err (Refused why)) e' = RefusesCommit e.pager why e'.pager × (e' ≡ with_pager e e'.pager)
 
--- steps were made, and more are left or none; or they were refused; no block is wanted for them
+-- Steps were made, and `left` is whether more are left. Or they were refused. They never want a block.
 abbrev pub AnswersSteps : ℕ → EmbeddedState → Result Bool Unread → EmbeddedState → Type 0
 AnswersSteps most e (Ok left) e' = WritesOut most e.pager left e'.pager
 AnswersSteps most e (Err (Wanted block)) e' = ⊥

@@ -20,13 +20,13 @@ use Rattle.embedded_log.specs.Steps.{CommitsLog, StopsLogCommit, WritesCommitsHo
 
 -- ---- pages and lengths
 
--- the disk of an open volume made this many calls at most, reads alone
+-- The disk of an open volume made exactly this many calls, which were all reads.
 abbrev pub OnlyReadsLog : EmbeddedLogState → ℕ → EmbeddedLogState → Type 0
 OnlyReadsLog e calls e' =
     ReadsAlone deferred_disk e.files.pager.device e'.files.pager.device
     × Rises calls e.files.pager.device.calls e'.files.pager.device.calls
 
--- these bytes of a page were read, or it was refused
+-- These bytes of a page were read, or the request was refused.
 abbrev pub AnswersLogPage : EmbeddedLogState → FilePage → Result (List ℕ) Unread → EmbeddedLogState → Type 0
 AnswersLogPage e page (Ok bytes) e' =
     (page_refusal e.files.lengths page ≡ None)
@@ -36,20 +36,20 @@ AnswersLogPage e page (Ok bytes) e' =
 AnswersLogPage e page (Err why) e' =
     ReportsWanted e'.files.pager.device.wanted why × RefusesPageRead e.files page (pager_refusal why)
 
--- and nothing changed but the disk, by reads
+-- The request is answered, and only the disk changed, by reads.
 abbrev pub ReadsLogPage : EmbeddedLogState → FilePage → Result (List ℕ) Unread → EmbeddedLogState → Type 0
 ReadsLogPage e page outcome e' =
     AnswersLogPage e page outcome e' × OnlyReadsLog e (page_read_calls e.files page) e'
     × (e' ≡ with_files e (on_device e.files e'.files.pager.device))
 
--- a whole page was written, or it was refused
+-- A whole page was written, or the request was refused.
 abbrev pub WritesLogPage : EmbeddedLogState → FilePage → List ℕ → Result (Unit {0}) Refusal → EmbeddedLogState → Type 0
 WritesLogPage e page bytes (Ok done) e' =
     (log_put_refusal e.files page ≡ None) × (e' ≡ with_files e (after_page_put e.files page bytes))
 WritesLogPage e page bytes (Err why) e' = RefusesPagePut e.files page why × (e' ≡ e)
 
--- A file got this length. If it grew from inside a page, that page had the bytes that the files have there, or others
--- where a block was supplied wrongly. Or it was refused, and nothing changed but the disk.
+-- The file's length was set. If it grew from inside a page, that page had the bytes that the files have there. It may
+-- have had others if a block was supplied wrongly. Or the request was refused, and only the disk changed.
 abbrev pub AnswersLogLength : EmbeddedLogState → (file length : ℕ) → Result (Unit {0}) Unread → EmbeddedLogState
     → Type 0
 AnswersLogLength e file length (Ok done) e' =
@@ -61,7 +61,7 @@ AnswersLogLength e file length (Err why) e' =
     (e'.files ≡ on_device e.files e'.files.pager.device) × ReportsWanted e'.files.pager.device.wanted why
     × RefusesLogLength e.files file length (pager_refusal why)
 
--- and the disk made reads alone
+-- The request is answered, and the disk made only reads.
 abbrev pub SetsLogLength : EmbeddedLogState → (file length : ℕ) → Result (Unit {0}) Unread → EmbeddedLogState → Type 0
 SetsLogLength e file length outcome e' =
     AnswersLogLength e file length outcome e' × OnlyReadsLog e (log_length_calls e.files file length) e'
@@ -69,13 +69,13 @@ SetsLogLength e file length outcome e' =
 
 -- ---- commits
 
--- A commit of this mark was made. Or it stopped: a block is wanted for it, or it was refused. The steps that were made
--- stay.
+-- A commit with this mark was made. Or it stopped: it wants a block, or it was refused. The steps that were made
+-- remain.
 abbrev pub MakesLogCommit : EmbeddedLogState → Result ℕ Unread → EmbeddedLogState → Type 0
 MakesLogCommit e (Ok mark) e' = CommitsLog e.files mark e'.files × (e' ≡ with_log_mark e mark e'.files)
 MakesLogCommit e (Err why) e' = StopsLogCommit e.files why e'.files × (e' ≡ with_files e e'.files)
 
--- Steps were made, and more are left or none. Or they stopped: a block is wanted for one, or one was refused.
+-- Steps were made, and `left` is whether more are left. Or they stopped: a step wants a block, or was refused.
 abbrev pub AnswersLogSteps : ℕ → EmbeddedLogState → Result Bool Unread → EmbeddedLogState → Type 0
 AnswersLogSteps most e (Ok left) e' = WritesCommitsHome most e.files left e'.files
 AnswersLogSteps most e (Err why) e' = StopsSteps most e.files why e'.files

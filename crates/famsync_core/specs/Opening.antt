@@ -14,12 +14,13 @@ use Rattle.famsync_core.specs.Held.{HeldVolume, holding}
 use Rattle.famsync_core.specs.declared.volume.OpenVolume.{OpenVolume}
 use Rattle.famsync_core.specs.declared.volume.OpenVolume.TheVariants.{Journals, Log}
 
--- the most pages of a commit; 0 stands for as many as its journals or its log take
+-- The most pages of a commit. For 0, only the journals or the log limit them.
 abbrev pub most_pages : ℕ → ℕ
 most_pages pages = if pages == 0 then 2 ^ 32 - 1 else pages
 
--- the disk isn't opened as a volume with journals, or with a log, for this reason; it is as it was where a block is
--- wanted, and also where it has no journals, if each block was supplied as it was
+-- The disk isn't opened as a volume with journals, or with a log, for this reason. If a block is wanted, the disk only
+-- made a read that lacked it. If there are no journals, the disk is unchanged, provided that each block was supplied as
+-- the disk had it.
 abbrev pub RefusesJournals : Deferred → Unread → Deferred → Type 0
 RefusesJournals disk why left =
     RefusesPagerOpening deferred_disk disk (pager_refusal why) left × KeepsForWanted disk why left
@@ -28,26 +29,26 @@ RefusesJournals disk why left =
 abbrev pub RefusesLog : Deferred → Unread → Deferred → Type 0
 RefusesLog disk why left = RefusesEmbeddedLog disk (pager_refusal why) left × KeepsForWanted disk why left
 
--- opened as a volume with journals; or not, though it may be one
+-- The disk is opened as a volume with journals, or not, though it may be one.
 abbrev pub OpensJournals : Deferred → (most : ℕ) → Result OpenVolume (Unread × Deferred) → Type 0
 OpensJournals disk most (Ok (Journals e)) = OpensVolume disk most e
 OpensJournals disk most (Ok (Log e)) = ⊥
 OpensJournals disk most (Err left) = (left.0 ≢ Refused NotAVolume) × RefusesJournals disk left.0 left.1
 
--- opened as a volume with a log; or not
+-- The disk is opened as a volume with a log, or not.
 abbrev pub OpensLog : Deferred → (most : ℕ) → Result OpenVolume (Unread × Deferred) → Type 0
 OpensLog disk most (Ok (Journals e)) = ⊥
 OpensLog disk most (Ok (Log e)) = OpensLogVolume disk most e
 OpensLog disk most (Err left) = RefusesLog disk left.0 left.1
 
--- It is opened as a volume with journals. Exactly where it is no such volume, it is opened as one with a log.
+-- The disk is opened as a volume with journals. If it isn't such a volume, it is opened as one with a log instead.
 abbrev pub OpensEither : Deferred → (most : ℕ) → Result OpenVolume (Unread × Deferred) → Type 0
 OpensEither disk most outcome =
     OpensJournals disk most outcome
     ⊎ ((asked : Deferred) × RefusesJournals disk (Refused NotAVolume) asked × OpensLog asked most outcome)
 
--- So it is answered: a volume was opened, and is held from now on; or none was, for this reason, and the disk that is
--- left is kept.
+-- The reply to an opening. Either a volume was opened, and is held from now on. Or none was, for this reason, and the
+-- remaining disk is kept.
 abbrev pub TellsOpening : HeldVolume → Result OpenVolume (Unread × Deferred) → ℤ → (before wanted : ℕ) → HeldVolume
     → Type 0
 TellsOpening held (Ok v) code before wanted held' = (code ≡ ok_code) × (wanted ≡ before) × (held' ≡ holding v)

@@ -1,4 +1,4 @@
--- What each call does, and what it answers.
+-- What each call does, and what it returns.
 use Rattle.std.specs.Prelude.{ℕ, ℤ, ◌≡◌, ◌⊎◌, ◌&&◌, nat_le, List, length, Bool, Option, Some, None, MatchBool}
 use Rattle.std.specs.Prelude.{Result, Ok, Err}
 use Rattle.std.specs.Result.{result_unwrap_or}
@@ -20,7 +20,7 @@ use Rattle.famsync_core.specs.declared.volume.OpenVolume.TheVariants.{Journals, 
 
 -- ---- an open volume
 
--- a request by the kind of the volume, which stays
+-- A request on a volume, defined for each kind. The volume's kind doesn't change.
 abbrev pub ByKind : (EmbeddedState → EmbeddedState → Type 0) → (EmbeddedLogState → EmbeddedLogState → Type 0)
     → OpenVolume → OpenVolume → Type 0
 ByKind journals log (Journals e) (Journals e') = journals e e'
@@ -28,12 +28,12 @@ ByKind journals log (Log e) (Log e') = log e e'
 ByKind journals log (Journals e) (Log e') = ⊥
 ByKind journals log (Log e) (Journals e') = ⊥
 
--- what a reading into a block came to: these bytes, or none
+-- the result of reading into a block: its bytes, or why none were read
 abbrev pub bytes_read : Result (Unit {0}) Unread → List ℕ → Result (List ℕ) Unread
 bytes_read (Ok done) block = Ok block
 bytes_read (Err why) block = Err why
 
--- a page is read, or written; a length is set
+-- A page is read; a page is written; a length is set.
 abbrev pub IsRead : OpenVolume → FilePage → Result (List ℕ) Unread → OpenVolume → Type 0
 IsRead v page outcome v' =
     ByKind (λ e e'. ReadsPage e page outcome e') (λ e e'. ReadsLogPage e page outcome e') v v'
@@ -46,7 +46,7 @@ abbrev pub IsLengthSet : OpenVolume → (file length : ℕ) → Result (Unit {0}
 IsLengthSet v file length outcome v' =
     ByKind (λ e e'. SetsLength e file length outcome e') (λ e e'. SetsLogLength e file length outcome e') v v'
 
--- a commit is made, or steps are
+-- A commit is made; steps are made.
 abbrev pub IsCommitted : OpenVolume → Result ℕ Unread → OpenVolume → Type 0
 IsCommitted v outcome v' = ByKind (λ e e'. MakesCommit e outcome e') (λ e e'. MakesLogCommit e outcome e') v v'
 
@@ -54,9 +54,9 @@ abbrev pub IsWrittenHome : ℕ → OpenVolume → Result Bool Unread → OpenVol
 IsWrittenHome most v outcome v' =
     ByKind (λ e e'. WritesHome most e outcome e') (λ e e'. WritesLogHome most e outcome e') v v'
 
--- ---- so it is answered
+-- ---- the replies
 
--- other than 4,096 bytes are no page; where none was read, the bytes stay
+-- The buffer must have 4,096 bytes. If no page was read, its bytes don't change.
 abbrev pub AnswersRead : OpenVolume → FilePage → (old new : List ℕ) → ℤ → (before wanted : ℕ) → OpenVolume → Type 0
 AnswersRead v page old new code before wanted v' = MatchBool (is_block old)
     ((outcome : Result (List ℕ) Unread) × (code ≡ reading_code outcome) × (wanted ≡ wanted_block outcome before)
@@ -73,7 +73,7 @@ AnswersSetLength v file length code before wanted v' =
     (outcome : Result (Unit {0}) Unread) × (code ≡ reading_code outcome) × (wanted ≡ wanted_block outcome before)
     × IsLengthSet v file length outcome v'
 
--- where none was committed, the mark that was told before stays
+-- If nothing was committed, the mark that was there before doesn't change.
 abbrev pub AnswersCommit : OpenVolume → ℤ → (before mark before' wanted : ℕ) → OpenVolume → Type 0
 AnswersCommit v code before mark before' wanted v' =
     (outcome : Result ℕ Unread) × (code ≡ reading_code outcome) × (wanted ≡ wanted_block outcome before')
@@ -86,21 +86,21 @@ AnswersWriteOut most v code before wanted v' =
 
 -- ---- the host
 
--- a block was supplied, or memory was refused for it; other than 4,096 bytes are none, and the disk may have no such
--- block
+-- A block was supplied, or memory for it was refused. The argument is invalid if there aren't 4,096 bytes, or the disk
+-- has no such block.
 abbrev pub AnswersSupply : HeldVolume → ℕ → List ℕ → ℤ → HeldVolume → Type 0
 AnswersSupply held block bytes code held' = MatchBool (is_block bytes && has_block held block)
     (((code ≡ ok_code) × (held' ≡ after_supplied block bytes held)) ⊎ ((code ≡ memory_code) × (held' ≡ held)))
     ((code ≡ argument_code) × (held' ≡ held))
 
--- a block was forgotten, if the host needn't keep it
+-- A block was forgotten, if the host needn't keep it.
 abbrev pub AnswersForget : HeldVolume → ℕ → ℤ → HeldVolume → Type 0
 AnswersForget held block code held' = MatchBool (has_block held block)
     (MatchBool (needs_no held block) ((code ≡ ok_code) × (held' ≡ after_forgotten block held))
     ((code ≡ none_code) × (held' ≡ held)))
     ((code ≡ argument_code) × (held' ≡ held))
 
--- a call that waits, as numbers: what it is, and where and how long a write
+-- A waiting call as numbers: its kind, and the offset and length of a write.
 abbrev pub AnswersCall : Option DiskChange → ℤ → (kind kind' offset offset' size size' : ℕ) → Type 0
 AnswersCall (Some (write at bytes)) code kind kind' offset offset' size size' =
     (code ≡ ok_code) × (kind' ≡ 1) × (offset' ≡ at) × (size' ≡ length bytes)
@@ -109,7 +109,7 @@ AnswersCall (Some sync) code kind kind' offset offset' size size' =
 AnswersCall None code kind kind' offset offset' size size' =
     (code ≡ none_code) × (kind' ≡ kind) × (offset' ≡ offset) × (size' ≡ size)
 
--- the oldest calls were made, if as many waited
+-- The host made this many of the oldest calls, if at least this many waited.
 abbrev pub AnswersMade : HeldVolume → (count : ℕ) → ℤ → HeldVolume → Type 0
 AnswersMade held count code held' = MatchBool (nat_le count (waiting_in held))
     ((code ≡ ok_code) × (held' ≡ after_calls_made count held))

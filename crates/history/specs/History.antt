@@ -1,5 +1,5 @@
--- The history of a run: what was stored, where marks stand, and which marks were acknowledged; and the memory and the
--- files that a history leaves (Park, Kelly and Shen 2013: the whole effect of an msync or none of it).
+-- The history of a run: stores, changes of length, marks and acknowledgements, in order. Its effect is the memory and
+-- the files after it. See Park, Kelly and Shen 2013: an msync has its whole effect or none.
 use Rattle.std.specs.Prelude.{ℕ, ◌+◌, ◌-◌, ◌*◌, ◌/◌, ◌%◌, ◌==◌, ◌≡◌, nat_lt, nat_le, min, Bool, true, false, ◌&&◌}
 use Rattle.std.specs.Prelude.{◌⊎◌, if◌then◌else◌, List, [], ◌∷◌, ◌++◌, length, map, take, drop, slice_set, Contains}
 use Rattle.std.specs.Prelude.{slice_index_or}
@@ -15,20 +15,20 @@ use Rattle.device.specs.Device.{written}
 abbrev pub Memory : Type 0
 Memory = ℕ → ℕ → List ℕ
 
--- a page of these bytes, and zeros where they end
+-- A page of these bytes, with zeros after their end.
 abbrev pub page_of : List ℕ → ℕ → List ℕ
 page_of bytes page = padded 4096 (take 4096 (drop (4096 * page) bytes))
 
--- the bytes of a file by its number
+-- The bytes of the file with this number.
 abbrev pub file_bytes : List File → ℕ → List ℕ
 file_bytes [] file = []
 file_bytes (f ∷ fs) file = if file == 0 then f.bytes else file_bytes fs (file - 1)
 
--- the memory of these files: each one's bytes, and zeros after its end
+-- The memory with these files: the bytes of each file, and zeros after its end.
 abbrev pub memory_of : List File → Memory
 memory_of files file page = page_of (file_bytes files file) page
 
--- the bytes of a page up to its file's end, of files of these lengths
+-- The bytes of a page up to its file's end. `lengths` are the lengths of the files.
 abbrev pub part : List ℕ → FilePage → List ℕ → List ℕ
 part lengths owner bytes = take (slice_index_or lengths owner.file 0 - 4096 * owner.page) bytes
 
@@ -36,8 +36,8 @@ part lengths owner bytes = take (slice_index_or lengths owner.file 0 - 4096 * ow
 abbrev pub bytes_of_pages : (ℕ → List ℕ) → ℕ → List ℕ
 bytes_of_pages pages n = take n (blocks_from pages 0 (pages_of n))
 
--- these files, the first of them with this number, with these lengths and the bytes that a memory has for them (POSIX:
--- bytes after the end of the last page aren't part of the file)
+-- These files with the lengths `lengths`, and with their bytes from `memory`. `file` is the number of the first one.
+-- Bytes in the last page after the file's end aren't part of the file (POSIX).
 abbrev pub files_from_memory : ℕ → List File → List ℕ → Memory → List File
 files_from_memory file (f ∷ fs) (n ∷ lengths) memory =
     record { name = f.name; bytes = bytes_of_pages (memory file) n; capacity = f.capacity }
@@ -48,21 +48,23 @@ files_from_memory file files lengths memory = []
 abbrev pub lengths_of : List File → List ℕ
 lengths_of files = map (λ f. length f.bytes) files
 
--- What a run does to memory, to lengths and to the promise of durability: bytes were stored at this offset of a file;
--- the length of a file became another, and bytes from the smaller one on are zeros; all stores and lengths so far
--- belong to this mark; this mark is durable.
+-- An event of a history.
+-- - Store: bytes were stored at this offset of a file.
+-- - SetLength: the length of a file changed, and the file's bytes from the smaller length on became zeros.
+-- - Mark: all stores and changes of length so far belong to this mark.
+-- - Acknowledge: this mark was acknowledged, so it is durable.
 pub data Event : Type 0 where
   Store : (file offset : ℕ) (bytes : List ℕ) → Event
   SetLength : (file from to : ℕ) → Event
   Mark : (number : ℕ) → Event
   Acknowledge : (number : ℕ) → Event
 
--- the memory after one store; a store lies inside one page
+-- The memory after one store. A store lies inside one page.
 abbrev pub stored : Memory → ℕ → ℕ → List ℕ → Memory
 stored memory file offset bytes =
     λ f p. if f == file && p == offset / 4096 then written (memory f p) (offset % 4096) bytes else memory f p
 
--- the memory after the bytes of a file from this one on became zeros
+-- The memory after the bytes of a file from `end` on became zeros.
 abbrev pub cut_file : Memory → ℕ → ℕ → Memory
 cut_file memory file end =
     λ f p. if f == file then padded 4096 (take (end - 4096 * p) (memory f p)) else memory f p
@@ -75,7 +77,7 @@ after memory (SetLength file from to ∷ events) = after (cut_file memory file (
 after memory (Mark number ∷ events) = after memory events
 after memory (Acknowledge number ∷ events) = after memory events
 
--- the lengths after one event, and after a history
+-- The lengths after one event, and those after a history.
 abbrev pub with_length : List ℕ → Event → List ℕ
 with_length lengths (SetLength file from to) = slice_set lengths file to
 with_length lengths event = lengths
@@ -88,7 +90,7 @@ abbrev pub files_after : List File → List Event → List File
 files_after files history =
     files_from_memory 0 files (lengths_after (lengths_of files) history) (after (memory_of files) history)
 
--- the events after the last mark of a history, or all of one without marks
+-- The events after the last mark of a history, or all events if it has no mark.
 abbrev pub with_event : List Event → Event → List Event
 with_event events (Mark number) = []
 with_event events event = events ++ event ∷ []
@@ -102,27 +104,28 @@ is_change (Store file offset bytes) = true
 is_change (SetLength file from to) = true
 is_change event = false
 
--- whether an event changes the bytes of a page or makes it part of its file: the store to it, and each growth of the
--- file that begins in it or before it and ends in it or after it
+-- Whether an event is a store to this page, or a growth of its file that covers it. A growth covers each page from that
+-- of its first new byte to that of its last one.
 abbrev pub is_change_of : ℕ → ℕ → Event → Bool
 is_change_of file page (Store f offset bytes) = f == file && page == offset / 4096
 is_change_of file page (SetLength f from to) =
     f == file && nat_lt from to && nat_le (from / 4096) page && nat_lt page (pages_of to)
 is_change_of file page event = false
 
--- whether a store or a change of length stands after the last mark
+-- Whether a store or a change of length follows the last mark.
 abbrev pub has_unmarked : List Event → Bool
 has_unmarked history = list_any is_change (since_mark history)
 
--- whether a store to this page of a file, or a growth that has it, stands after the last mark
+-- Whether a store to this page, or a growth of its file that covers it, follows the last mark.
 abbrev pub is_touched : List Event → ℕ → ℕ → Bool
 is_touched history file page = list_any (is_change_of file page) (since_mark history)
 
--- empty, or ends with a mark
+-- The events are empty, or end with a mark.
 abbrev pub IsMarked : List Event → Type 0
 IsMarked events = (events ≡ []) ⊎ ((front : List Event) × (number : ℕ) × (events ≡ front ++ Mark number ∷ []))
 
--- a marked prefix of a history that has every mark which the history acknowledges
+-- `prefix` is a prefix of the history that is empty or ends with a mark. It contains every mark that the history
+-- acknowledges.
 pub record IsDurablePrefix (prefix history : List Event) : Type 0 where
   pub rest : List Event
   pub begins : prefix ++ rest ≡ history

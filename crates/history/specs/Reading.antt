@@ -4,8 +4,8 @@ use Rattle.volume_codec.specs.Files.{File}
 use Rattle.volume_codec.specs.Recovery.{RecoversTo}
 use Rattle.history.specs.History.{Event, files_after, IsDurablePrefix}
 
--- these bytes recover to the files after a durable prefix of the history: one that is empty or ends with a mark, and
--- has every mark that was acknowledged
+-- `disk` recovers to the files after a durable prefix of the history. Such a prefix is empty or ends with a mark, and
+-- contains every acknowledged mark.
 pub record ReadsBack (files : List File) (history : List Event) (disk : List ℕ) : Type 0 where
   pub prefix : List Event
   pub durable : IsDurablePrefix prefix history

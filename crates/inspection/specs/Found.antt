@@ -1,5 +1,5 @@
--- What is found of a volume: its table, the lengths of its files, what each journal says, and how many device calls
--- opening makes.
+-- What an inspection finds in a volume: its table, the lengths of its files, the content of each journal, and the
+-- number of device calls that opening makes.
 use Rattle.std.specs.Prelude.{ℕ, suc, ◌≡◌, ◌*◌, List, [], ◌∷◌, length, slice_index, MatchOption}
 use Rattle.volume_codec.specs.Layout.{GeometryValue, gate_block, descriptor_block, descriptor_blocks}
 use Rattle.volume_codec.specs.Layout.{journals_of, blocks_at}
@@ -12,7 +12,7 @@ use Rattle.recovery.specs.Opening.{opening_calls}
 use Rattle.inspection.specs.declared.found.Journal.{Journal}
 use Rattle.inspection.specs.declared.found.Found.{Found}
 
--- what journal j of these bytes says: the first byte of its gate, and its descriptor where that byte opens it
+-- `journal` describes journal `j` in these bytes: the first byte of its gate, and its descriptor if the gate is open.
 pub record IsJournal {Z : Type 0} (g : GeometryValue) (bytes : List ℕ) (j : ℕ) (journal : Journal Z) : Type 0 where
   pub number : journal.number ≡ j
   pub gate : journal.gate ≡ slice_index bytes (4096 * gate_block g.slots j)
@@ -20,16 +20,16 @@ pub record IsJournal {Z : Type 0} (g : GeometryValue) (bytes : List ℕ) (j : �
       (λ d. IsOpen bytes g.slots j
       × IsDescriptor g d (blocks_at bytes (descriptor_block g.slots j) (descriptor_blocks g.slots)))
 
--- what journals say, one after another, of which the first has the number j
+-- The list describes consecutive journals in these bytes, from journal `j` on.
 abbrev pub AreFrom : {Z : Type 0} → GeometryValue → List ℕ → ℕ → List (Journal Z) → Type 0
 AreFrom g bytes j [] = Unit {0}
 AreFrom g bytes j (journal ∷ journals) = IsJournal g bytes j journal × AreFrom g bytes (suc j) journals
 
--- what all journals say
+-- The list describes all journals in these bytes.
 abbrev pub AreJournals : {Z : Type 0} → GeometryValue → List ℕ → List (Journal Z) → Type 0
 AreJournals g bytes journals = (length journals ≡ journals_of g.layout) × AreFrom g bytes 0 journals
 
--- what is found of bytes that recover to files
+-- `found` describes the volume in `bytes`, which recover to files.
 pub record IsFound {Z : Type 0} (bytes : List ℕ) (found : Found Z) : Type 0 where
   pub batches : List Batch
   pub volume : IsVolume found.table batches bytes
@@ -38,5 +38,5 @@ pub record IsFound {Z : Type 0} (bytes : List ℕ) (found : Found Z) : Type 0 wh
   pub recovers : Recovers found.table contents bytes
   pub lengths : found.lengths.items ≡ lengths_in found.table contents
   pub files : RecoversTo bytes (files_in found.table contents)
-  -- of a device that no call was made of
+  -- the device calls of an opening, counted from 0
   pub calls : Rises (opening_calls found.table batches) 0 found.calls

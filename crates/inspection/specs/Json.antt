@@ -1,4 +1,4 @@
--- What is found of a volume, as JSON. The members of an object are in the order of their names.
+-- What an inspection finds in a volume, as JSON. The members of an object are sorted by name.
 use Rattle.std.specs.Prelude.{ℕ, zero, suc, ◌*◌, true, false, codes, List, [], ◌∷◌}
 use Rattle.std.specs.Prelude.{◌++◌, map, length, slice_index, Option, Some, None}
 use Rattle.serde_json.specs.Data.{Data, object, number, unsigned, boolean, string, array, member, no_members}
@@ -17,7 +17,6 @@ use Rattle.inspection.specs.Text.{name_of, health_words}
 abbrev pub num : ℕ → Data
 num n = number (unsigned n)
 
--- a list
 abbrev pub list : List Data → Data
 list items = array (items_of items)
 
@@ -35,12 +34,12 @@ abbrev pub file_data : SuperValue → ℕ → ℕ → Data
 file_data v i n = file_members (name_of v i) n (slice_index (capacities_in v) i)
     (pages_of (slice_index (capacities_in v) i)) (first_home_of v i)
 
--- the files before file i, where these are the lengths of all
+-- The files before file `i`. `lengths` are the lengths of all files.
 abbrev pub files_data : SuperValue → List ℕ → ℕ → List Data
 files_data v lengths zero = []
 files_data v lengths (suc i) = files_data v lengths i ++ file_data v i (slice_index lengths i) ∷ []
 
--- a home block: its file and the page of that
+-- A home block: its file and page. A block that belongs to no file has its number instead.
 abbrev pub place_data : SuperValue → ℕ → Option HomePage → Data
 place_data v h None = object (member (codes "block") (num h) no_members)
 place_data v h (Some place) =
@@ -53,7 +52,7 @@ home_data v h = place_data v h (place_in v h)
 abbrev pub homes_data : SuperValue → List ℕ → List Data
 homes_data v homes = map (home_data v) homes
 
--- a journal, by its number and the byte of its gate
+-- A closed journal: its number, and the byte of its gate.
 abbrev pub closed_data : ℕ → ℕ → Data
 closed_data n gate =
     object (member (codes "gate") (num gate)
@@ -78,7 +77,7 @@ journal_data v journal = state_data v journal.number journal.gate journal.descri
 abbrev pub journals_data : {Z : Type 0} → SuperValue → List (Journal Z) → List Data
 journals_data v journals = map (journal_data v) journals
 
--- a volume with these files and journals, whose opening makes so many device calls
+-- A volume with these files and journals. An opening of it makes `calls` device calls.
 abbrev pub volume_data : SuperValue → ℕ → Data → Data → Data
 volume_data v calls files journals =
     object (member (codes "blocks") (num (block_count v))
@@ -89,13 +88,13 @@ volume_data v calls files journals =
     (member (codes "opening_calls") (num calls)
     (member (codes "slots") (num v.slots) no_members)))))))
 
--- what is found of a volume
+-- Everything that an inspection finds in a volume.
 abbrev pub info_data : {Z : Type 0} → Found Z → Data
 info_data found = volume_data found.table found.calls
     (list (files_data found.table found.lengths.items (length found.table.files)))
     (list (journals_data found.table found.journals.items))
 
--- how a volume is
+-- The health of a volume.
 abbrev pub health_data : Health → Data
 health_data health = object (member (codes "state") (string (health_words health)) no_members)
 

@@ -10,7 +10,7 @@ use Rattle.log_volume.specs.Files.{RecoversToLog}
 use Rattle.inspection.specs.declared.health.Health.{Health}
 use Rattle.inspection.specs.declared.health.Health.TheVariants.{Clean, NeedsOpening}
 
--- these bytes recover to files, and these are the commits of their log
+-- `bytes` recover to files, and `chain` are the commits of their log.
 pub record HoldsLog (bytes : List ℕ) (chain : List LogDescriptor) : Type 0 where
   pub table : LogSuperValue
   pub super_block : IsLogSuper table (block_at bytes 0)
@@ -19,7 +19,7 @@ pub record HoldsLog (bytes : List ℕ) (chain : List LogDescriptor) : Type 0 whe
   pub files : List File
   pub recovers : RecoversToLog bytes files
 
--- these bytes recover to files: where the log has no commit the volume is clean, and where it has one it needs opening
+-- The bytes recover to files. If the log has no commit, the volume is clean; otherwise it needs opening.
 abbrev pub IsLogHealth : List ℕ → Health → Type 0
 IsLogHealth bytes Clean = HoldsLog bytes []
 IsLogHealth bytes NeedsOpening =

@@ -1,4 +1,4 @@
--- What is found of a volume with a log, as JSON. The members of an object are in the order of their names.
+-- What an inspection finds in a volume with a log, as JSON. The members of an object are sorted by name.
 use Rattle.std.specs.Prelude.{ℕ, zero, suc, ◌*◌, codes, List, [], ◌∷◌, ◌++◌, length, slice_index}
 use Rattle.serde_json.specs.Data.{Data, object, member, no_members}
 use Rattle.volume_codec.specs.Super.{capacities_in, pages_of}
@@ -16,12 +16,12 @@ abbrev pub log_file_data : LogSuperValue → ℕ → ℕ → Data
 log_file_data v i n = file_members (name_of (table_of v) i) n (slice_index (capacities_in (table_of v)) i)
     (pages_of (slice_index (capacities_in (table_of v)) i)) (log_home_of v i)
 
--- the files before file i, where these are the lengths of all
+-- The files before file `i`. `lengths` are the lengths of all files.
 abbrev pub log_files_data : LogSuperValue → List ℕ → ℕ → List Data
 log_files_data v lengths zero = []
 log_files_data v lengths (suc i) = log_files_data v lengths i ++ log_file_data v i (slice_index lengths i) ∷ []
 
--- a log of so many blocks, with so many commits in so many of them, in an epoch
+-- A log of `ring` blocks in this epoch. Its `commits` commits use `used` blocks.
 abbrev pub log_data : ℕ → ℕ → ℕ → ℕ → Data
 log_data ring commits used epoch =
     object (member (codes "blocks") (num ring)
@@ -41,7 +41,7 @@ log_volume_data layout blocks files log =
 abbrev pub log_value_data : LogValue → Data → Data → Data
 log_value_data g files log = log_volume_data (log_layout g.sealing) g.blocks files log
 
--- what is found of a volume with a log
+-- Everything that an inspection finds in a volume with a log.
 abbrev pub log_info_data : {Z : Type 0} → LoggedVolume Z → Data
 log_info_data found = log_value_data (log_of found.table)
     (list (log_files_data found.table found.lengths.items (length found.table.files)))

@@ -1,4 +1,4 @@
--- The lines that are printed of a volume with a log.
+-- The lines that are printed about a volume with a log.
 use Rattle.std.specs.Prelude.{ℕ, zero, suc, ◌+◌, ◌*◌, codes, List, [], ◌∷◌, ◌++◌, length, slice_index}
 use Rattle.std.specs.Fmt.{decimal}
 use Rattle.volume_codec.specs.Super.{first_home_of, capacities_in}
@@ -24,7 +24,7 @@ log_volume_text layout ring blocks =
 abbrev pub log_volume_line : LogValue → List ℕ
 log_volume_line g = log_volume_text (log_layout g.sealing) g.ring g.blocks
 
--- the first home block of file i: it lies behind the one in the table, by the blocks of the log and one of lengths
+-- The first home block of file `i`. It follows the one in `table_of` by the blocks of the log and one block of lengths.
 abbrev pub log_home_of : LogSuperValue → ℕ → ℕ
 log_home_of v i = first_home_of (table_of v) i + v.ring + 1
 
@@ -33,18 +33,18 @@ abbrev pub log_file_line : LogSuperValue → ℕ → ℕ → List ℕ
 log_file_line v i n =
     file_text (name_of (table_of v) i) n (slice_index (capacities_in (table_of v)) i) (log_home_of v i)
 
--- the files before file i, where these are the lengths of all
+-- The files before file `i`. `lengths` are the lengths of all files.
 abbrev pub log_file_lines : LogSuperValue → List ℕ → ℕ → List ℕ
 log_file_lines v lengths zero = []
 log_file_lines v lengths (suc i) = log_file_lines v lengths i ++ log_file_line v i (slice_index lengths i)
 
--- a log with so many commits in so many blocks, in an epoch
+-- A log in this epoch, whose `commits` commits use `used` blocks.
 abbrev pub log_line : ℕ → ℕ → ℕ → List ℕ
 log_line commits used epoch =
     codes "log: " ++ (decimal commits ++ (codes " commits in " ++ (decimal used ++ (codes " blocks, epoch "
     ++ (decimal epoch ++ 10 ∷ [])))))
 
--- what is found of a volume with a log
+-- Everything that an inspection finds in a volume with a log.
 abbrev pub log_info_text : {Z : Type 0} → LoggedVolume Z → List ℕ
 log_info_text found =
     log_volume_line (log_of found.table)

@@ -1,23 +1,23 @@
--- How the bytes of a device are answered that is only read.
+-- What is answered about the bytes of a device that is only read.
 use Rattle.std.specs.Prelude.{ℕ, ◌≡◌, ◌⊎◌, List, Result, Ok, Err, IfErr}
 use Rattle.page_entry.specs.declared.refusal.Refusal.{Refusal}
 use Rattle.page_entry.specs.declared.refusal.Refusal.TheVariants.{Device, OutOfMemory, NotAVolume, Damaged}
 use Rattle.volume_codec.specs.Files.{File}
 use Rattle.volume_codec.specs.Recovery.{RecoversTo, IsNotAVolume, IsDamaged}
 
--- a refusal that no bytes are the reason of: a device call failed, or memory was refused
+-- The refusal doesn't depend on the bytes: a device call failed, or memory was refused.
 abbrev pub IsOfNoBytes : Refusal → Type 0
 IsOfNoBytes Device = Unit {0}
 IsOfNoBytes OutOfMemory = Unit {0}
 IsOfNoBytes _ = ⊥
 
--- an answer is this refusal, or one that no bytes are the reason of
+-- The answer is this refusal, or one that doesn't depend on the bytes.
 abbrev pub IsRefused : {X : Type 0} → Refusal → Result X Refusal → Type 0
 IsRefused refusal (Ok found) = ⊥
 IsRefused refusal (Err other) = (other ≡ refusal) ⊎ IsOfNoBytes other
 
--- Bytes are answered as opening judges them: NotAVolume where they are no volume, Damaged where they are a damaged one,
--- and no refusal where they recover to files; Device or OutOfMemory may come in the place of any.
+-- The answer judges the bytes as an opening does. It is NotAVolume if they are no volume, Damaged if they are a damaged
+-- one, and no refusal if they recover to files. In each case it may also be Device or OutOfMemory.
 pub record IsJudged {X : Type 0} (bytes : List ℕ) (result : Result X Refusal) : Type 0 where
   pub none : IsNotAVolume bytes → IsRefused NotAVolume result
   pub damaged : IsDamaged bytes → IsRefused Damaged result

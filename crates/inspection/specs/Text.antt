@@ -1,4 +1,4 @@
--- The lines that are printed of a volume.
+-- The lines that are printed about a volume.
 use Rattle.std.specs.Prelude.{ℕ, zero, suc, ◌*◌, ◌/◌, ◌%◌, ◌==◌, if◌then◌else◌, false, codes, List}
 use Rattle.std.specs.Prelude.{[], ◌∷◌, ◌++◌, length, slice_index, slice_index_or, Option, Some, None}
 use Rattle.std.specs.List.{flat_map}
@@ -22,7 +22,7 @@ volume_line v =
     codes "layout " ++ decimal (number_of v.layout) ++ codes ", " ++ decimal v.slots ++ codes " slots, "
     ++ decimal (block_count v) ++ codes " blocks, " ++ decimal (4096 * block_count v) ++ codes " bytes\n"
 
--- the capacity of a file, where that isn't its length, and the line's end
+-- The capacity of a file, if it isn't the file's length, and a line feed.
 abbrev pub capacity_text : ℕ → ℕ → List ℕ
 capacity_text n capacity = if capacity == n then 10 ∷ [] else codes ", capacity " ++ decimal capacity ++ 10 ∷ []
 
@@ -33,7 +33,7 @@ abbrev pub file_size : ℕ → ℕ → ℕ → List ℕ
 file_size n pages home =
     decimal n ++ (codes " bytes, " ++ (decimal pages ++ (codes " pages, home " ++ decimal home)))
 
--- a file of n bytes, whose home blocks begin here
+-- A file of `n` bytes, whose home blocks begin at `home`.
 abbrev pub file_text : List ℕ → ℕ → ℕ → ℕ → List ℕ
 file_text name n capacity home = file_name name ++ file_size n (pages_of capacity) home ++ capacity_text n capacity
 
@@ -41,12 +41,13 @@ file_text name n capacity home = file_name name ++ file_size n (pages_of capacit
 abbrev pub file_line : SuperValue → ℕ → ℕ → List ℕ
 file_line v i n = file_text (name_of v i) n (slice_index (capacities_in v) i) (first_home_of v i)
 
--- the files before file i, where these are the lengths of all
+-- The files before file `i`. `lengths` are the lengths of all files.
 abbrev pub file_lines : SuperValue → List ℕ → ℕ → List ℕ
 file_lines v lengths zero = []
 file_lines v lengths (suc i) = file_lines v lengths i ++ file_line v i (slice_index lengths i)
 
--- a home block: a space, the name of its file, a colon, and the number of the page in that
+-- A home block: a space, the name of its file, a colon, and the number of its page in the file. A block that belongs to
+-- no file has its number instead.
 abbrev pub place_text : SuperValue → ℕ → Option HomePage → List ℕ
 place_text v h None = codes " block " ++ decimal h
 place_text v h (Some place) = 32 ∷ name_of v place.file ++ 58 ∷ decimal place.page
@@ -57,7 +58,7 @@ home_text v h = place_text v h (place_in v h)
 abbrev pub homes_text : SuperValue → List ℕ → List ℕ
 homes_text v homes = flat_map (home_text v) homes
 
--- a descriptor: its mark, and how many home blocks it has, and which
+-- A descriptor: its mark, the number of its home blocks, then the home blocks.
 abbrev pub open_head : ℕ → ℕ → List ℕ
 open_head mark count =
     codes " open, mark " ++ (decimal mark ++ (codes ", " ++ (decimal count ++ codes " blocks:")))
@@ -76,7 +77,7 @@ journal_name n = codes "journal " ++ decimal n ++ codes ": gate "
 abbrev pub gate_text : ℕ → List ℕ
 gate_text gate = digit_glyph false (gate / 16) ∷ digit_glyph false (gate % 16) ∷ []
 
--- a journal: the byte of its gate, and what that opens
+-- A journal: its number, the byte of its gate, and the descriptor if the gate is open.
 abbrev pub journal_line : {Z : Type 0} → SuperValue → Journal Z → List ℕ
 journal_line v journal =
     journal_name journal.number ++ gate_text journal.gate ++ state_text v journal.descriptor
@@ -84,18 +85,18 @@ journal_line v journal =
 abbrev pub journal_lines : {Z : Type 0} → SuperValue → List (Journal Z) → List ℕ
 journal_lines v journals = flat_map (journal_line v) journals
 
--- opening
+-- The number of device calls that an opening makes.
 abbrev pub calls_line : ℕ → List ℕ
 calls_line calls = codes "opening makes " ++ decimal calls ++ codes " device calls\n"
 
--- what is found of a volume
+-- Everything that an inspection finds in a volume.
 abbrev pub info_text : {Z : Type 0} → Found Z → List ℕ
 info_text found =
     volume_line found.table ++ file_lines found.table found.lengths.items (length found.table.files)
     ++ journal_lines found.table found.journals.items
     ++ calls_line found.calls
 
--- how a volume is
+-- The health of a volume, in words.
 abbrev pub health_words : Health → List ℕ
 health_words Clean = codes "clean"
 health_words NeedsOpening = codes "needs opening"

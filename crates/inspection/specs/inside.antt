@@ -1,2 +1,2 @@
--- What ties private code to the definitions that public clauses name.
+-- Definitions that connect private code with the definitions in public contracts.
 pub mod Health

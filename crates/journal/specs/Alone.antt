@@ -1,5 +1,5 @@
--- How the write-out of one batch, alone in its volume, stands with the device: what has led there, from a volume at
--- rest on. Old is what the volume holds before the write-out, New the same with the batch's blocks.
+-- The write-out of one batch, alone in its volume, and the device: the states that its steps lead to, from a volume at
+-- rest. Old is the volume's contents before the write-out. New is Old with the batch's blocks.
 use Rattle.std.specs.Prelude.{ℕ, ◌≡◌, ◌⊎◌, false, List, [], length, Contains, Some, IsSome}
 use Rattle.device.specs.Device.{Only}
 use Rattle.device.specs.Did.{Did}
@@ -13,13 +13,14 @@ use Rattle.journal.specs.Work.{has_done}
 use Rattle.journal.specs.WriteOut.{FlushValue, IsBatch, next_stage, flush_of}
 use Rattle.journal.specs.WriteOut.{flush_home, flush_work, flush_answer, flush_after}
 
--- the device holds a volume whose journals are closed, all of it synced, and this is a batch of that volume
+-- The device contains a volume whose journals are closed, all of it is synced, and `batch` is a batch of this volume.
 pub record MayBeginAlone {D : Type 0} (disk : Ghosts D) (v : SuperValue) (batch : Batch) (device : D) : Type 0 where
   pub is_batch : IsBatch (geometry_of v) batch
   pub volume : IsVolume v [] (disk.seen device)
   pub synced : Only (disk.may_leave device) (disk.seen device)
 
--- a step of the write-out on an honest device, which is given these bytes and answers so
+-- A step of the write-out on an honest device. The step gets `bytes` as a record's bytes, and answers `answer`.
+-- `before` and `after` are the device before and after the step.
 pub record IsStepAlone {D : Type 0} (disk : Ghosts D) (flush : FlushValue) (bytes : List ℕ) (answer : Flushed)
     (before after : D) : Type 0 where
   pub whole : flush.broken ≡ false
@@ -31,11 +32,11 @@ pub record IsStepAlone {D : Type 0} (disk : Ghosts D) (flush : FlushValue) (byte
 
 pub data HasLedAlone {D : Type 0} (disk : Ghosts D) (v : SuperValue)
     : FlushValue → (ℕ → List ℕ) → (ℕ → List ℕ) → D → Type 0 where
-  -- Before the first step Old is the home blocks, and New each contents that agree with it outside the batch.
+  -- Before the first step, Old is the home blocks. New may be any contents that agree with Old outside the batch.
   BegunAlone : (batch : Batch) (room : ℕ) (new : ℕ → List ℕ) (device : D) → MayBeginAlone disk v batch device
       → ((b : ℕ) → (Contains batch.homes b → ⊥) → new b ≡ block_at (disk.seen device) b)
       → HasLedAlone disk v (flush_of (geometry_of v) batch room) (block_at (disk.seen device)) new device
-  -- A step that writes a record is given the block of New.
+  -- A step that writes a record gets the block of New.
   SteppedAlone : (flush : FlushValue) (old new : ℕ → List ℕ) (bytes : List ℕ) (answer : Flushed) (before after : D)
       → IsStepAlone disk flush bytes answer before after
       → ((home : ℕ) → flush_home flush ≡ Some home → bytes ≡ new home)

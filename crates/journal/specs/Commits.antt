@@ -1,4 +1,4 @@
--- Commits that follow one another at once, what is left of them, and how many syncs they make.
+-- Commits that follow each other at once, the steps that remain after them, and the number of their syncs.
 use Rattle.std.specs.Prelude.{ℕ, ◌≡◌, ◌≢◌, ◌+◌, true, List, []}
 use Rattle.volume_codec.specs.Layout.{GeometryValue}
 use Rattle.journal.specs.declared.flushed.Flushed.{Flushed}
@@ -7,7 +7,7 @@ use Rattle.journal.specs.Work.{Work, Sync}
 use Rattle.journal.specs.WriteOuts.{WriteOutsValue, none_of, has_uncommitted, next_work, next_answer, outs_after, begun}
 use Rattle.journal.specs.LedTo.{MayBegin}
 
--- how many batches a step commits that answers so, and how many syncs one makes that asks for this work
+-- The number of batches that a step with this answer commits, and the number of syncs that a step with this work makes.
 abbrev pub commits_by : Flushed → ℕ
 commits_by (Committed mark) = 1
 commits_by answer = 0
@@ -16,8 +16,8 @@ abbrev pub syncs_by : Work → ℕ
 syncs_by Sync = 1
 syncs_by work = 0
 
--- Write-outs after so many commits and so many syncs, from none on: no device call fails, and a step is made only while
--- a batch isn't committed, so that the next batch begins at once.
+-- The write-outs after these numbers of commits and syncs, from none. No device call fails. A step is made only while a
+-- batch isn't committed, so the next batch begins at once.
 pub data HaveCommitted (g : GeometryValue) : WriteOutsValue → ℕ → ℕ → Type 0 where
   NoneYet : HaveCommitted g (none_of g) 0 0
   OneBegun : (outs : WriteOutsValue) (commits syncs mark : ℕ) (homes : List ℕ) → MayBegin outs mark homes
@@ -27,7 +27,7 @@ pub data HaveCommitted (g : GeometryValue) : WriteOutsValue → ℕ → ℕ → 
       → HaveCommitted g (outs_after outs (next_answer outs)) (commits + commits_by (next_answer outs))
       (syncs + syncs_by (next_work outs []))
 
--- Write-outs after further steps and so many syncs of these: no device call fails, and no batch begins.
+-- The write-outs after further steps, which made this number of syncs. No device call fails, and no batch begins.
 pub data HaveGoneOn (outs : WriteOutsValue) : WriteOutsValue → ℕ → Type 0 where
   NotYet : HaveGoneOn outs outs 0
   OneMore : (mid : WriteOutsValue) (syncs : ℕ) → mid.batches ≢ [] → HaveGoneOn outs mid syncs

@@ -1,5 +1,4 @@
--- What finishing a batch makes of a volume: its gate is open, its records are written to their home blocks, and its
--- gate is closed.
+-- How a batch with an open gate is finished: its records are written to their home blocks, and its gate is closed.
 use Rattle.std.specs.Prelude.{◌≡◌, ◌≢◌, ◌↔◌, ◌⊎◌, ℕ, ◌+◌, ◌*◌, ◌^◌, ◌<◌, ◌≤◌, List, [], ◌∷◌}
 use Rattle.std.specs.Prelude.{◌++◌, length, slice_index, Result, OnOk, is_ok, if◌then◌else◌}
 use Rattle.device.specs.Count.{raised}
@@ -10,39 +9,39 @@ use Rattle.volume_codec.specs.Super.{SuperValue, geometry_of}
 use Rattle.volume_codec.specs.Recovery.{Batch, Recovers}
 use Rattle.journal.specs.Recovered.{RecoversBy}
 
--- byte i of a device lies in no home block of its volume
+-- Byte `i` of a device is in no home block of its volume.
 abbrev pub IsOutside : GeometryValue → ℕ → Type 0
 IsOutside g i = (i < 4096 * first_home g.layout g.slots) ⊎ (4096 * g.blocks ≤ i)
 
--- the byte that opens and closes the gate of a batch's journal
+-- The place of the byte that opens and closes the gate of a batch's journal.
 abbrev pub gate_byte : ℕ → Batch → ℕ
 gate_byte slots batch = 4096 * gate_block slots batch.journal
 
--- An honest device holds a volume, all of it synced. These are the batches of its open journals, the newest first, and
--- this is what its bytes recover to.
+-- An honest device contains a volume, all of it synced. `opened` are the batches of its open journals, the newest
+-- first. Its bytes recover to `contents`.
 pub record HoldsVolume {D : Type 0} (disk : Ghosts D) (v : SuperValue) (opened : List Batch) (contents : ℕ → List ℕ)
     (device : D) : Type 0 where
   pub honest : disk.is_honest device
   pub recovers : RecoversBy v opened contents (disk.seen device)
   pub synced : Only (disk.may_leave device) (disk.seen device)
 
--- a crash leaves what recovers to the same, with as many bytes, and past these blocks the same bytes
+-- `c` recovers to `contents`, and is as long as `old`. Past the volume's blocks, `c` has the bytes of `old`.
 pub record RecoversSame (v : SuperValue) (contents : ℕ → List ℕ) (old c : List ℕ) : Type 0 where
   pub recovers : Recovers v contents c
   pub same_length : length c ≡ length old
   pub past : (i : ℕ) → 4096 * (geometry_of v).blocks ≤ i → slice_index c i ≡ slice_index old i
 
--- the gate is closed by the byte 0, and every byte but it and those of home blocks is as before
+-- The gate is closed by the byte 0. Every other byte outside the home blocks is as before.
 pub record IsClosed (g : GeometryValue) (batch : Batch) (old new : List ℕ) : Type 0 where
   pub gate : slice_index new (gate_byte g.slots batch) ≡ 0
   pub others : (i : ℕ) → IsOutside g i → i ≢ gate_byte g.slots batch → slice_index new i ≡ slice_index old i
 
--- how many device calls it takes: each record is read and written, the home blocks are synced, the gate is closed, and
--- that is synced
+-- The number of device calls that finish a batch. Each record is read and written, the home blocks are synced, the gate
+-- is closed, and that is synced.
 abbrev pub finishing_calls : Batch → ℕ
 finishing_calls batch = 2 * length batch.homes + 3
 
--- the oldest batch of a volume was finished, or a device call failed
+-- The oldest batch of a volume was finished, or a device call failed.
 pub record Finishes {D T E : Type 0} (disk : Ghosts D) (g : GeometryValue) (batch : Batch) (old : D)
     (result : Result T E) (new : D) : Type 0 where
   pub finished : (v : SuperValue) (newer : List Batch) (contents : ℕ → List ℕ) → geometry_of v ≡ g

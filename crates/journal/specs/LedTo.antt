@@ -1,5 +1,5 @@
--- What has led to a device and to the write-outs of its volume, from an opened volume on. Old is what the
--- volume recovers to without the batch that isn't committed, New the same with that batch's blocks.
+-- The states of a device and its volume's write-outs that batches and steps lead to, from an opened volume. Old is what
+-- the volume recovers to without the uncommitted batch. New is Old with that batch's blocks.
 use Rattle.std.specs.Prelude.{ℕ, ◌≡◌, ◌≢◌, ◌^◌, ◌<◌, ◌⊎◌, false, List, [], length, Contains, Some}
 use Rattle.std.specs.List.{AllByRecursion}
 use Rattle.device.specs.Device.{Only}
@@ -15,7 +15,7 @@ use Rattle.journal.specs.Work.{has_done}
 use Rattle.journal.specs.WriteOuts.{WriteOutsValue, none_of, has_uncommitted, next_work}
 use Rattle.journal.specs.WriteOuts.{next_answer, outs_after, outs_home, is_busy, begun}
 
--- a batch of these home blocks may begin under this mark
+-- A batch of these home blocks may begin with this mark.
 pub record MayBegin (outs : WriteOutsValue) (mark : ℕ) (homes : List ℕ) : Type 0 where
   pub whole : outs.broken ≡ false
   pub free : is_busy outs ≡ false
@@ -24,7 +24,8 @@ pub record MayBegin (outs : WriteOutsValue) (mark : ℕ) (homes : List ℕ) : Ty
   pub are_homes : AreHomes outs.geometry homes
   pub newest : AllByRecursion (λ w. w.batch.mark < mark) outs.batches
 
--- a step of the write-outs of an honest device, which is given these bytes and answers so
+-- A step of the write-outs on an honest device. The step gets `bytes` as a record's bytes, and answers `answer`.
+-- `before` and `after` are the device before and after the step.
 pub record IsStep {D : Type 0} (disk : Ghosts D) (outs : WriteOutsValue) (bytes : List ℕ) (answer : Flushed)
     (before after : D) : Type 0 where
   pub whole : outs.broken ≡ false
@@ -36,17 +37,17 @@ pub record IsStep {D : Type 0} (disk : Ghosts D) (outs : WriteOutsValue) (bytes 
 
 pub data HasLedTo {D : Type 0} (disk : Ghosts D) (v : SuperValue)
     : WriteOutsValue → (ℕ → List ℕ) → (ℕ → List ℕ) → D → Type 0 where
-  -- At first there is none, all of the volume is on the disk, and Old and New are its home blocks.
+  -- At first there is no write-out, all of the volume is synced, and Old and New are its home blocks.
   AtFirst : (device : D) → IsVolume v [] (disk.seen device) → Only (disk.may_leave device) (disk.seen device)
       → HasLedTo disk v (none_of (geometry_of v)) (block_at (disk.seen device)) (block_at (disk.seen device)) device
-  -- A batch that begins turns New into Old, and each contents that agree with it outside the batch into New.
+  -- When a batch begins, New becomes Old. The next New may be any contents that agree with it outside the batch.
   Begun : (outs : WriteOutsValue) (old new next : ℕ → List ℕ) (mark : ℕ) (homes : List ℕ) (device : D)
       → MayBegin outs mark homes → ((b : ℕ) → (Contains homes b → ⊥) → next b ≡ new b)
       → HasLedTo disk v outs old new device → HasLedTo disk v (begun outs mark homes) new next device
-  -- Where each batch is committed, Old plays no part.
+  -- If each batch is committed, Old may be any contents.
   AnyOld : (outs : WriteOutsValue) (old other new : ℕ → List ℕ) (device : D) → has_uncommitted outs.batches ≡ false
       → HasLedTo disk v outs old new device → HasLedTo disk v outs other new device
-  -- A step that writes a record is given the block of New.
+  -- A step that writes a record gets the block of New.
   Stepped : (outs : WriteOutsValue) (old new : ℕ → List ℕ) (bytes : List ℕ) (answer : Flushed) (before after : D)
       → IsStep disk outs bytes answer before after → ((home : ℕ) → outs_home outs ≡ Some home → bytes ≡ new home)
       → HasLedTo disk v outs old new before → HasLedTo disk v (outs_after outs answer) old new after

@@ -8,12 +8,12 @@ use Rattle.volume_codec.specs.Super.{SuperValue, first_home_of, block_count}
 abbrev pub home_of : SuperValue → FilePage → ℕ
 home_of table owner = first_home_of table owner.file + owner.page
 
--- the file of a page is one of the table, and its home block one of the volume
+-- The page's file is in the table, and its home block is in the volume.
 pub record HasHome (table : SuperValue) (owner : FilePage) : Type 0 where
   pub file : owner.file < length table.files
   pub within : home_of table owner < block_count table
 
--- the home blocks of a batch: that of the lengths, where one was set, and those of its pages
+-- The home blocks of a batch: that of the lengths if a length was set, then those of its pages.
 abbrev pub homes_of : SuperValue → Bool → List FilePage → List ℕ
 homes_of table resized pages =
     (if resized then first_home table.layout table.slots ∷ [] else []) ++ map (home_of table) pages

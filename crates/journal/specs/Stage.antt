@@ -1,5 +1,5 @@
--- The stages of a write-out: what is to be done next, by the number of its blocks, of the descriptor blocks of its
--- journal and of its steps so far.
+-- The stages of a write-out. The next stage depends on the number of its blocks, of its journal's descriptor blocks,
+-- and of its steps so far.
 use Rattle.std.specs.Prelude.{ℕ, Bool, true, false, not, List, [], ◌∷◌, ◌++◌, map, Option, slice_get}
 use Rattle.std.specs.List.{range_with_len}
 use Rattle.journal.specs.declared.stage.Stage.{Stage}
@@ -8,20 +8,21 @@ use Rattle.journal.specs.declared.stage.Stage.TheVariants.{Committing, Applying,
 use Rattle.journal.specs.declared.flushed.Flushed.{Flushed}
 use Rattle.journal.specs.declared.flushed.Flushed.TheVariants.{Going, Committed, Done}
 
--- Rule: closing order: A batch's home blocks are synced before its gate is closed, it is done once that is synced, and
--- an opening carries out the older of two open journals first.
--- the stages of a write-out of so many blocks, whose descriptor has so many, in order, one for each step
+-- Rule: closing order: A batch's home blocks are synced before its gate is closed. The batch is done once the closed
+-- gate is synced. An opening finishes the older of two open journals first.
+-- The stages of a write-out in order, one for each step. The batch has `blocks` blocks, and its descriptor has
+-- `described` blocks.
 abbrev pub stages : ℕ → ℕ → List Stage
 stages blocks described =
     map Recording (range_with_len 0 blocks) ++ map Describing (range_with_len 0 described)
     ++ SyncingRecords ∷ Opening ∷ Committing
     ∷ (map Applying (range_with_len 0 blocks) ++ SyncingHomes ∷ Closing ∷ Finishing ∷ [])
 
--- the stage of the next one, after so many steps; none once all are made
+-- The stage of the next step, after `steps` steps. None once all steps are made.
 unfoldable pub stage_at : ℕ → ℕ → ℕ → Option Stage
 stage_at blocks described steps = slice_get (stages blocks described) steps
 
--- at this stage the batch is committed: the open gate is sure
+-- At this stage the batch is committed: its open gate is durable.
 abbrev pub is_committed : Stage → Bool
 is_committed (Recording i) = false
 is_committed (Describing i) = false
@@ -30,7 +31,7 @@ is_committed Opening = false
 is_committed Committing = false
 is_committed stage = true
 
--- the step of this stage writes
+-- The step of this stage writes.
 abbrev pub has_writes : Stage → Bool
 has_writes SyncingRecords = false
 has_writes Committing = false
@@ -38,17 +39,17 @@ has_writes SyncingHomes = false
 has_writes Finishing = false
 has_writes stage = true
 
--- its step is a sync that may serve other write-outs too: each but the one that commits
+-- The step of this stage is a sync that may serve other write-outs too. This is any sync except the one that commits.
 abbrev pub may_share : Stage → Bool
 may_share Committing = false
 may_share stage = not (has_writes stage)
 
--- the batch isn't committed, and its next step isn't the sync of its records
+-- At this stage the batch isn't committed, and the next step isn't the sync of its records.
 abbrev pub is_ahead : Stage → Bool
 is_ahead SyncingRecords = false
 is_ahead stage = not (is_committed stage)
 
--- what the step of this stage of a mark's write-out answers, where its device calls succeed
+-- What the step of this stage answers in the write-out of this mark, if its device calls succeed.
 abbrev pub answer_at : ℕ → Stage → Flushed
 answer_at mark Committing = Committed mark
 answer_at mark Finishing = Done mark

@@ -1,4 +1,4 @@
--- What the steps of a write-out ask of the device.
+-- The device calls of a write-out's steps.
 use Rattle.std.specs.Prelude.{ℕ, ◌+◌, ◌*◌, Bool, true, false, List, [], ◌∷◌, slice_index}
 use Rattle.volume_codec.specs.Layout.{GeometryValue, gate_block, descriptor_block, record_block, block_at}
 use Rattle.volume_codec.specs.Descriptor.{descriptor_text}
@@ -11,7 +11,8 @@ use Rattle.journal.specs.declared.stage.Stage.TheVariants.{Committing, Applying,
 pub use Rattle.device.specs.Work.{Work, WriteAt, CopyBlock, Sync, Nothing, worked}
 pub use Rattle.device.specs.Work.{TornByWork, TornFromWork, calls_of, HasFailed}
 
--- what the step of a stage of this batch asks for, where it is given these bytes as a record
+-- The work of this stage's step in the write-out of this batch. `bytes` are the bytes of the record, if the step writes
+-- one.
 abbrev pub work_at : GeometryValue → Batch → List ℕ → Stage → Work
 work_at g batch bytes (Recording i) = WriteAt (4096 * record_block g.slots batch.journal i) bytes
 work_at g batch bytes (Describing i) =
@@ -25,7 +26,7 @@ work_at g batch bytes SyncingHomes = Sync
 work_at g batch bytes Closing = WriteAt (4096 * gate_block g.slots batch.journal) (0 ∷ [])
 work_at g batch bytes Finishing = Sync
 
--- a step that answers so: no device call of it failed
+-- No device call of a step with this answer failed.
 abbrev pub has_done : Flushed → Bool
 has_done Device = false
 has_done answer = true

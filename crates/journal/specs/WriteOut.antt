@@ -1,4 +1,4 @@
--- A write-out: a batch on its way to its home blocks. And the value of a `Flush`, which is one by itself.
+-- A write-out: a batch, and its steps to the home blocks. And the value of a `Flush`, which is a single write-out.
 use Rattle.std.specs.Prelude.{ℕ, zero, suc, ◌+◌, ◌*◌, ◌<◌, if◌then◌else◌, Bool, true, false}
 use Rattle.std.specs.Prelude.{List, [], length, slice_index, Option, Some, None}
 use Rattle.std.specs.Option.{option_map, option_map_or, option_and_then}
@@ -12,23 +12,23 @@ use Rattle.journal.specs.declared.flushed.Flushed.TheVariants.{Device, Broken}
 use Rattle.journal.specs.Stage.{stage_at, is_committed, answer_at}
 use Rattle.journal.specs.Work.{Work, Nothing, work_at, calls_of}
 
--- a batch of a volume of this geometry: its journal is there, and a descriptor can say it
+-- `batch` is a batch of a volume of this geometry: its journal exists, and a descriptor can describe it.
 pub record IsBatch (g : GeometryValue) (batch : Batch) : Type 0 where
   pub there : batch.journal < journals_of g.layout
   pub described : IsDescribed g (record { mark = batch.mark; homes = batch.homes })
 
--- a batch, and how many steps of its write-out were made
+-- A batch, and the number of steps of its write-out that were made.
 pub record WriteOut : Type 0 where
   pub batch : Batch
-  -- how many blocks the descriptor of its journal has
+  -- the number of blocks of its journal's descriptor
   pub described : ℕ
   pub steps : ℕ
 
--- the write-out of a batch after so many steps, in a volume whose journals have so many slots
+-- The write-out of a batch after this number of steps. The volume's journals have `slots` slots.
 abbrev pub after_steps : ℕ → Batch → ℕ → WriteOut
 after_steps slots batch steps = record { batch = batch; described = descriptor_blocks slots; steps = steps }
 
--- before its first step
+-- The write-out of a batch before its first step.
 abbrev pub begun_of : ℕ → Batch → WriteOut
 begun_of slots batch = after_steps slots batch 0
 
@@ -36,22 +36,22 @@ begun_of slots batch = after_steps slots batch 0
 abbrev pub advanced_of : WriteOut → WriteOut
 advanced_of w = record w { steps = w.steps + 1 }
 
--- how many steps commit a batch, and how many there are
+-- The number of steps that commit a batch, and the number of all steps.
 abbrev pub committing_steps : ℕ → Batch → ℕ
 committing_steps slots batch = length batch.homes + descriptor_blocks slots + 3
 
 abbrev pub all_steps : ℕ → Batch → ℕ
 all_steps slots batch = 2 * length batch.homes + descriptor_blocks slots + 6
 
--- the stage of its next step, unless it is done
+-- The stage of the next step, unless the write-out is done.
 abbrev pub next_stage : WriteOut → Option Stage
 next_stage w = stage_at (length w.batch.homes) w.described w.steps
 
--- its batch is committed
+-- The batch is committed.
 abbrev pub has_committed : WriteOut → Bool
 has_committed w = option_map_or is_committed (next_stage w) true
 
--- the place of the record that its next step writes, if it writes one, and the home block of that record
+-- The place of the record that the next step writes, if it writes one, and the home block of that record.
 abbrev pub record_at : Stage → Option ℕ
 record_at (Recording i) = Some i
 record_at stage = None
@@ -62,15 +62,16 @@ next_record w = option_and_then record_at (next_stage w)
 abbrev pub next_home : WriteOut → Option ℕ
 next_home w = option_map (slice_index w.batch.homes) (next_record w)
 
--- what its next step asks of the device, in a volume of this geometry, where it is given these bytes as a record
+-- The device work of the next step in a volume of this geometry. `bytes` are the bytes of the record, if the step
+-- writes one.
 abbrev pub work_of : GeometryValue → List ℕ → WriteOut → Work
 work_of g bytes w = option_map_or (work_at g w.batch bytes) (next_stage w) Nothing
 
--- what its next step answers where its device calls succeed
+-- What the next step answers if its device calls succeed.
 abbrev pub answer_of : WriteOut → Flushed
 answer_of w = option_map_or (answer_at w.batch.mark) (next_stage w) Broken
 
--- the write-out, and whether a device call failed, after a step that answers so
+-- The write-out after a step with this answer, and whether a device call has failed.
 abbrev pub write_out_after : Flushed → WriteOut → WriteOut
 write_out_after Device w = w
 write_out_after Broken w = w
@@ -80,7 +81,7 @@ abbrev pub broken_after : Flushed → Bool → Bool
 broken_after Device broken = true
 broken_after answer broken = broken
 
--- how many device calls the first steps of a batch's write-out make together, where none fails
+-- The number of device calls of the first steps of a batch's write-out, if none fails.
 abbrev pub calls_in_steps : GeometryValue → Batch → ℕ → ℕ
 calls_in_steps g batch zero = 0
 calls_in_steps g batch (suc steps) =
@@ -89,19 +90,19 @@ calls_in_steps g batch (suc steps) =
 -- ---- a `Flush`
 
 pub record FlushValue : Type 0 where
-  -- where the volume has its parts
+  -- where the parts of the volume are
   pub geometry : GeometryValue
   pub write_out : WriteOut
-  -- a call of the device failed in a step
+  -- whether a device call failed in a step
   pub broken : Bool
-  -- how many home blocks its list has memory for
+  -- the number of home blocks for which its list has memory
   pub room : ℕ
 
--- before its first step
+-- The value before the first step.
 abbrev pub flush_of : GeometryValue → Batch → ℕ → FlushValue
 flush_of g batch room = record { geometry = g; write_out = begun_of g.slots batch; broken = false; room = room }
 
--- the record and its home block, the work and the answer of its next step
+-- The record that the next step writes, its home block, and the work and the answer of that step.
 abbrev pub flush_record : FlushValue → Option ℕ
 flush_record flush = if flush.broken then None else next_record flush.write_out
 
@@ -114,7 +115,7 @@ flush_work flush bytes = if flush.broken then Nothing else work_of flush.geometr
 abbrev pub flush_answer : FlushValue → Flushed
 flush_answer flush = if flush.broken then Broken else answer_of flush.write_out
 
--- the value after a step that answers so
+-- The value after a step with this answer.
 abbrev pub flush_after : FlushValue → Flushed → FlushValue
 flush_after flush answer = record flush {
   write_out = write_out_after answer flush.write_out;

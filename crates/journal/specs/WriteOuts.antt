@@ -1,4 +1,4 @@
--- The value of `WriteOuts`: the write-outs of a volume that aren't done, at most one for each journal.
+-- The value of `WriteOuts`: the unfinished write-outs of a volume, at most one for each journal.
 use Rattle.std.specs.Prelude.{ℕ, ◌+◌, ◌==◌, ◌||◌, ◌&&◌, if◌then◌else◌, Bool, false, not, List}
 use Rattle.std.specs.Prelude.{[], ◌∷◌, ◌++◌, length, drop, map, Contains, Option, Some, None}
 use Rattle.std.specs.List.{list_any}
@@ -15,73 +15,74 @@ use Rattle.journal.specs.WriteOut.{WriteOut, begun_of, advanced_of, next_stage, 
 use Rattle.journal.specs.WriteOut.{next_record, next_home, work_of, answer_of, broken_after}
 
 pub record WriteOutsValue : Type 0 where
-  -- where the volume has its parts
+  -- where the parts of the volume are
   pub geometry : GeometryValue
   -- the journal of the next batch
   pub next : ℕ
-  -- the write-outs that aren't done, the oldest first
+  -- the unfinished write-outs, the oldest first
   pub batches : List WriteOut
-  -- a call of the device failed in a step
+  -- whether a device call failed in a step
   pub broken : Bool
 
--- none, before the first batch
+-- The value before the first batch, without write-outs.
 abbrev pub none_of : GeometryValue → WriteOutsValue
 none_of g = record { geometry = g; next = 0; batches = []; broken = false }
 
--- a batch of them isn't committed
+-- The batch of one of these write-outs isn't committed.
 abbrev pub has_uncommitted : List WriteOut → Bool
 has_uncommitted batches = list_any (λ w. not (has_committed w)) batches
 
--- ---- whose step comes next
+-- ---- the write-out that makes the next step
 
--- Where a layout has four journals, write-outs share their syncs: two syncs in a commit then serve the batch itself,
--- the home blocks of the one before and the closed gate of the one before that.
+-- In a layout with four journals, write-outs share their syncs. A commit's two syncs then serve its own batch, the home
+-- blocks of the batch before, and the closed gate of the one before that.
 abbrev pub shares_syncs : Layout → Bool
 shares_syncs layout = journals_of layout == 4
 
--- its next step is of a stage that has this
+-- The write-out's next step is of a stage with this property.
 abbrev pub is_at : (Stage → Bool) → WriteOut → Bool
 is_at has w = option_map_or has (next_stage w) false
 
--- A step of these newer write-outs comes before one of w. Where syncs aren't shared: the newest isn't committed. Where
--- they are: the newest isn't committed, up to the sync of its records and from there to its commit; or w has nothing to
--- write, and a newer one has.
+-- A step of these newer write-outs comes before one of `w`. If syncs aren't shared: one of them isn't committed. If
+-- syncs are shared: one of them isn't committed and isn't at the sync of its records; or `w` has nothing to write, and
+-- one of them has.
 abbrev pub gives_way : Bool → WriteOut → List WriteOut → Bool
 gives_way shares w newer =
     if shares
     then list_any (is_at is_ahead) newer || (not (is_at has_writes w) && list_any (is_at has_writes) newer)
     else has_uncommitted newer
 
--- The write-out whose step comes next. Where none has anything to write and syncs are shared, the step is a sync of
--- all of them, and this is the oldest.
+-- The write-out that makes the next step. Suppose that syncs are shared, no write-out is ahead (`is_ahead`), and none
+-- has anything to write. Then the step is a sync of all of them, and this is the oldest.
 abbrev pub moving : Bool → List WriteOut → Option WriteOut
 moving shares [] = None
 moving shares (w ∷ newer) = if gives_way shares w newer then moving shares newer else Some w
 
--- those that take part in the step of an older one: each, where it is a shared sync
+-- The newer write-outs after a step of the older one `w`. If the step is a shared sync, each takes part in it.
 abbrev pub joined : Bool → WriteOut → List WriteOut → List WriteOut
 joined shares w newer = if shares then (if is_at may_share w then map advanced_of newer else newer) else newer
 
--- the write-outs after that step
+-- The write-outs after the next step.
 abbrev pub moved : Bool → List WriteOut → List WriteOut
 moved shares [] = []
 moved shares (w ∷ newer) =
     if gives_way shares w newer then w ∷ moved shares newer else advanced_of w ∷ joined shares w newer
 
--- The write-out whose step comes next where no sync is shared: the one whose batch isn't committed, or if there is none
--- the oldest. Its stage is what decides what a crash leaves, whether syncs are shared or not.
+-- The current write-out: the one whose batch isn't committed, or else the oldest. If no sync is shared, it makes the
+-- next step. Its stage decides what a crash leaves, even if syncs are shared.
 abbrev pub current : List WriteOut → Option WriteOut
 current batches = moving false batches
 
--- the write-outs after a step of it
+-- The write-outs after a step of the current one, if no sync is shared.
 abbrev pub advanced : List WriteOut → List WriteOut
 advanced batches = moved false batches
 
--- its stage
+-- The stage of the current write-out.
 abbrev pub current_stage : WriteOutsValue → Option Stage
 current_stage outs = option_and_then next_stage (current outs.batches)
 
--- the write-out whose step comes next, and what that step asks of the device, where it is given these bytes as a record
+-- The write-out that makes the next step, and the device work of that step. `bytes` are the bytes of the record, if the
+-- step writes one.
 abbrev pub outs_moving : WriteOutsValue → Option WriteOut
 outs_moving outs = moving (shares_syncs outs.geometry.layout) outs.batches
 
@@ -89,25 +90,26 @@ abbrev pub next_work : WriteOutsValue → List ℕ → Work
 next_work outs bytes =
     if outs.broken then Nothing else option_map_or (work_of outs.geometry bytes) (outs_moving outs) Nothing
 
--- what that step answers where no device call fails
+-- What that step answers if no device call fails.
 abbrev pub next_answer : WriteOutsValue → Flushed
 next_answer outs = if outs.broken then Broken else option_map_or answer_of (outs_moving outs) Broken
 
--- the write-outs after a step that answers so; the one that is done is the oldest
+-- The write-outs after a step with this answer. A write-out that is done is the oldest, and is removed.
 abbrev pub batches_after : Bool → Flushed → List WriteOut → List WriteOut
 batches_after shares Device batches = batches
 batches_after shares Broken batches = batches
 batches_after shares (Done mark) batches = drop 1 (moved shares batches)
 batches_after shares answer batches = moved shares batches
 
--- the value after a step that answers so
+-- The value after a step with this answer.
 abbrev pub outs_after : WriteOutsValue → Flushed → WriteOutsValue
 outs_after outs answer = record outs {
   batches = batches_after (shares_syncs outs.geometry.layout) answer outs.batches;
   broken = broken_after answer outs.broken;
 }
 
--- the place of the record that the next step writes, and its home block; none where no call will be made
+-- The place of the record that the next step writes, if it writes one, and its home block. None if a device call has
+-- failed.
 abbrev pub outs_record : WriteOutsValue → Option ℕ
 outs_record outs = if outs.broken then None else option_and_then next_record (outs_moving outs)
 
@@ -115,25 +117,25 @@ abbrev pub outs_home : WriteOutsValue → Option ℕ
 outs_home outs = if outs.broken then None else option_and_then next_home (outs_moving outs)
 
 -- Rule: busy: No further commit begins while one isn't committed yet, or while each journal is in use.
--- no further batch may begin: one isn't committed, or there are as many as journals
+-- No further batch may begin: one isn't committed, or each journal has a batch.
 abbrev pub is_busy : WriteOutsValue → Bool
 is_busy outs = has_uncommitted outs.batches || length outs.batches == journals_of outs.geometry.layout
 
--- the journal whose turn it is after this one
+-- The journal that is used after this one.
 abbrev pub following : Layout → ℕ → ℕ
 following layout journal = if journal + 1 == journals_of layout then 0 else journal + 1
 
--- the batch of this mark that begins now
+-- The batch that begins now, with this mark.
 abbrev pub next_batch : WriteOutsValue → ℕ → List ℕ → Batch
 next_batch outs mark homes = record { journal = outs.next; mark = mark; homes = homes }
 
--- the value after it has begun
+-- The value after that batch has begun.
 abbrev pub begun : WriteOutsValue → ℕ → List ℕ → WriteOutsValue
 begun outs mark homes = record outs {
   next = following outs.geometry.layout outs.next;
   batches = outs.batches ++ begun_of outs.geometry.slots (next_batch outs mark homes) ∷ [];
 }
 
--- the home block belongs to a batch that isn't done
+-- The home block belongs to an unfinished batch.
 abbrev pub HasBlock : WriteOutsValue → ℕ → Type 0
 HasBlock outs block = (w : WriteOut) × Contains outs.batches w × Contains w.batch.homes block

@@ -8,15 +8,15 @@ use Rattle.log_codec.specs.declared.broken.Broken.TheVariants.{OutOfMemory}
 use Rattle.log_codec.specs.Log.{LogValue, IsCommitSize, first_log_home, log_descriptor_blocks}
 use Rattle.log_codec.specs.Commit.{IsCommitNumber}
 
--- the number of records that these bytes say
+-- The number of records of a descriptor with these bytes.
 abbrev pub records_said : List ℕ → ℕ
 records_said bytes = number_in 4 (drop 16 bytes)
 
--- the home blocks that they say
+-- The home blocks of a descriptor with these bytes.
 abbrev pub homes_said : List ℕ → List ℕ
 homes_said bytes = numbers_in 4 (records_said bytes) (drop 32 bytes)
 
--- the rule that the first block of a descriptor breaks already, by its name
+-- The first block of a descriptor already breaks the rule with this name.
 abbrev pub BreaksFirstRule : LogValue → ℕ → List ℕ → Broken → Type 0
 BreaksFirstRule g number bytes Length = length bytes < 4096
 BreaksFirstRule g number bytes Number =
@@ -24,7 +24,7 @@ BreaksFirstRule g number bytes Number =
 BreaksFirstRule g number bytes Count = IsCommitSize g.ring (records_said bytes) → ⊥
 BreaksFirstRule g number bytes _ = ⊥
 
--- the rule that these bytes break, by its name. Memory may be refused for any bytes.
+-- The bytes break the rule with this name. Memory may be refused for any bytes.
 abbrev pub BreaksLogRule : LogValue → ℕ → List ℕ → Broken → Type 0
 BreaksLogRule g number bytes Length =
     (length bytes < 4096) ⊎ (length bytes ≢ 4096 * log_descriptor_blocks (records_said bytes))

@@ -5,13 +5,14 @@ use Rattle.volume_codec.specs.Layout.{block_at}
 use Rattle.volume_codec.specs.Recovery.{blocks_from}
 use Rattle.log_codec.specs.declared.sealing.Sealing.{Sealing}
 
--- where a volume with a log has its parts: how its commits are sealed, the blocks of the log, and all blocks
+-- The parts of a volume with a log: how its commits are sealed, the number of the log's blocks, and the number of all
+-- blocks.
 pub record LogValue : Type 0 where
   pub sealing : Sealing
   pub ring : ℕ
   pub blocks : ℕ
 
--- the first home block, behind a log of this many blocks; it holds the lengths of the files
+-- The first home block, behind a log of `ring` blocks. It contains the lengths of the files.
 abbrev pub first_log_home : ℕ → ℕ
 first_log_home ring = 4 + ring
 
@@ -19,22 +20,24 @@ first_log_home ring = 4 + ring
 abbrev pub first_log_file_home : ℕ → ℕ
 first_log_file_home ring = 5 + ring
 
--- a volume with this log may be: 4 to 2^24 blocks of log, a home block of a file at least, below 2^32 blocks
+-- The rules of a volume with a log: the log has 4 to 2^24 blocks, the volume has at least one home block of a file, and
+-- it has fewer than 2^32 blocks.
 pub record IsLog (g : LogValue) : Type 0 where
   pub some_ring : 4 ≤ g.ring
   pub few_ring : g.ring ≤ 2 ^ 24
   pub some_homes : first_log_file_home g.ring < g.blocks
   pub few_blocks : g.blocks < 2 ^ 32
 
--- the block at a position of the log; positions go round
+-- The block at a position of the log. Positions wrap around.
 abbrev pub ring_block : ℕ → ℕ → ℕ
 ring_block ring p = 4 + p % ring
 
--- n blocks from a position of the log on, one after another, round the ring
+-- The bytes of `n` blocks from position `p` of the log, around the ring.
 abbrev pub ring_bytes : ℕ → List ℕ → ℕ → ℕ → List ℕ
 ring_bytes ring bytes p n = blocks_from (λ i. block_at bytes (ring_block ring i)) p n
 
--- the number of blocks of the descriptor of a commit of this many records: it has 32 bytes and 4 for each record
+-- The number of descriptor blocks of a commit with this number of records. A descriptor has 32 bytes, and 4 more for
+-- each record.
 abbrev pub log_descriptor_blocks : ℕ → ℕ
 log_descriptor_blocks records = (4 * records + 4127) / 4096
 
@@ -42,7 +45,7 @@ log_descriptor_blocks records = (4 * records + 4127) / 4096
 abbrev pub log_commit_blocks : ℕ → ℕ
 log_commit_blocks records = log_descriptor_blocks records + records
 
--- a commit may have this many records: 1 to 65,535, and the log has a block more than the commit
+-- A commit may have this number of records: 1 to 65,535, and the log has at least one block more than the commit.
 pub record IsCommitSize (ring records : ℕ) : Type 0 where
   pub some : 0 < records
   pub few : records ≤ 65535

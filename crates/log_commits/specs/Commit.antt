@@ -18,15 +18,15 @@ use Rattle.log_commits.specs.Ring.{ring_works}
 use Rattle.log_commits.specs.Tail.{TailValue, HoldsLog, HoldsUpTo}
 use Rattle.log_commits.specs.Told.{TellsTorn, IsThis}
 
--- the records in the caller's room: they lie behind the blocks of the descriptor
+-- The records in the caller's buffer `room`. They are behind the descriptor's blocks.
 abbrev pub records_in : List ℕ → List ℕ → List ℕ
 records_in homes room = take (4096 * length homes) (drop (4096 * log_descriptor_blocks (length homes)) room)
 
--- the next commit has too few blocks
+-- The log has too few free blocks for a commit of this number of records.
 abbrev pub IsFull : TailValue → ℕ → Type 0
 IsFull t records = t.log.ring < t.used + log_commit_blocks records + spare_blocks t.log.sealing
 
--- a commit may begin, of records for these home blocks, in room of this size
+-- A commit of records for these home blocks may begin. `room` is the size of the caller's buffer.
 pub record MayCommit (t : TailValue) (homes : List ℕ) (room : ℕ) : Type 0 where
   pub whole : t.spent ≡ false
   pub size : IsCommitSize t.log.ring (length homes)
@@ -35,7 +35,7 @@ pub record MayCommit (t : TailValue) (homes : List ℕ) (room : ℕ) : Type 0 wh
   pub number : t.number + 1 < 2 ^ 64
   pub free : t.used + log_commit_blocks (length homes) + spare_blocks t.log.sealing ≤ t.log.ring
 
--- why it may not, by name. A device call may fail in any commit that may begin.
+-- The refusals of a commit. A device call may fail in any commit that may begin.
 abbrev pub RefusesTailCommit : TailValue → List ℕ → ℕ → CommitFault → Type 0
 RefusesTailCommit t homes room Spent = t.spent ≡ true
 RefusesTailCommit t homes room Count = IsCommitSize t.log.ring (length homes) → ⊥
@@ -46,31 +46,32 @@ RefusesTailCommit t homes room Busy = IsFull t (length homes)
 RefusesTailCommit t homes room Start = ⊥
 RefusesTailCommit t homes room Device = MayCommit t homes room
 
--- the commit under way
+-- The descriptor of the commit that is being made.
 abbrev pub next_logged : TailValue → List ℕ → LogDescriptor
 next_logged t homes = record { number = t.number; homes = homes }
 
--- its bytes in the log
+-- The bytes of this commit in the log.
 abbrev pub commit_bytes : TailValue → List ℕ → List ℕ → List ℕ
 commit_bytes t homes records =
     let d = next_logged t homes in log_seal t.log.sealing t.start.epoch d records ++ log_body d ++ records
 
--- Its device calls, with these last ones. Where a byte seals, all but that byte is written first, up to the byte that
--- closes the next seal, and made sure of before the byte opens this one. Where a digest seals, all is written at once.
+-- The device calls of a commit, which end with `last`. If a byte seals, all bytes but that one are written first, up to
+-- the byte that closes the next seal, and are synced. Then the byte opens this seal. If a digest seals, all bytes are
+-- written at once.
 abbrev pub works_with : Sealing → ℕ → ℕ → List ℕ → List Work → List Work
 works_with ByByte ring position bytes last =
     ring_works ring position 1 (bytes ++ 0 ∷ [])
     ++ (Sync ∷ WriteAt (4096 * ring_block ring position) (0xA7 ∷ []) ∷ last)
 works_with (ByDigest key) ring position bytes last = ring_works ring position 0 bytes ++ last
 
--- the last one makes sure of the commit
+-- The device calls of a commit that end with a sync, which makes the commit durable.
 abbrev pub works_by : Sealing → ℕ → ℕ → List ℕ → List Work
 works_by sealing ring position bytes = works_with sealing ring position bytes (Sync ∷ [])
 
 abbrev pub commit_works : TailValue → List ℕ → List ℕ → List Work
 commit_works t homes records = works_by t.log.sealing t.log.ring t.position (commit_bytes t homes records)
 
--- the tail behind it
+-- The tail behind this commit.
 abbrev pub tail_after : TailValue → List ℕ → TailValue
 tail_after t homes = record t {
   position = (t.position + log_commit_blocks (length homes)) % t.log.ring;
@@ -78,21 +79,21 @@ tail_after t homes = record t {
   used = t.used + log_commit_blocks (length homes);
 }
 
--- contents with the commit's records, record i for the home block at place i
+-- The contents with the commit's records: record `i` is for the home block at place `i`.
 abbrev pub committed_to : (ℕ → List ℕ) → List ℕ → List ℕ → ℕ → List ℕ
 committed_to contents [] records b = contents b
 committed_to contents (home ∷ homes) records b =
     if b == home then take 4096 records else committed_to contents homes (drop 4096 records) b
 
--- What a crash within a commit leaves: the commits before it. With all of its records, or without them, that is all,
--- if the digest tells a torn commit from a whole one.
+-- What a crash within a commit leaves: at least the commits before it. If the digest detects a torn commit, the log
+-- recovers to the contents without this commit's records, or with all of them.
 pub record LeftByCommit (t : TailValue) (contents : ℕ → List ℕ) (homes records bytes : List ℕ) : Type 0 where
   pub up_to : HoldsUpTo t.log t.number contents bytes
   pub recovers : TellsTorn (IsThis (next_logged t homes) records) t.log t.number bytes
       → LogRecovers t.log contents bytes ⊎ LogRecovers t.log (committed_to contents homes records) bytes
 
--- what the calls of a commit leave: within them a crash leaves what it may, and once they have succeeded the commit is
--- durable
+-- What the calls of a commit leave: within them, a crash leaves what `LeftByCommit` allows. Once they have succeeded,
+-- the commit is durable.
 pub record CommitLeaves {D : Type 0} (disk : Ghosts D) (t : TailValue) (contents : ℕ → List ℕ)
     (homes records : List ℕ) (done : Bool) (old new : D) : Type 0 where
   pub crash : LeavesOnly disk.moment disk.left_since old new (LeftByCommit t contents homes records)

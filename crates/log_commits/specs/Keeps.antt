@@ -3,8 +3,8 @@ use Rattle.std.specs.Prelude.{◌≡◌, ◌≢◌, ◌↔◌, true, length, Res
 use Rattle.device.specs.declared.device.Device.{Ghosts}
 use Rattle.log_commits.specs.Tail.{TailValue}
 
--- A call that is refused changes nothing. If a device call fails, which is the fault `failed`, the tail is as before,
--- but takes no further call.
+-- A refused call changes nothing. If a device call fails (the fault `failed`), the tail is as before, but it takes no
+-- further call.
 pub record KeepsTail {D T F : Type 0} (disk : Ghosts D) (failed : F) (result : Result T F) (old new : TailValue)
     (before after : D) : Type 0 where
   pub unchanged : IfErr result (λ fault. fault ≢ failed → (new ≡ old) × (after ≡ before))

@@ -1,9 +1,10 @@
--- Bytes that are written round the ring of a log.
+-- How bytes are written around the ring of a log.
 use Rattle.std.specs.Prelude.{ℕ, ◌+◌, ◌-◌, ◌*◌, ◌%◌, List, [], ◌∷◌, length, drop, slice_range, nat_le, if◌then◌else◌}
 use Rattle.device.specs.Work.{Work, WriteAt}
 use Rattle.log_codec.specs.Log.{ring_block}
 
--- the writes of these bytes, but the first few, from a position of the log on: one, or two where the ring wraps
+-- The writes of these bytes, without the first `from` ones, from a position of the log on. It is one write, or two if
+-- the ring wraps.
 abbrev pub ring_works : ℕ → ℕ → ℕ → List ℕ → List Work
 ring_works ring position from bytes =
     let at = 4096 * ring_block ring position + from in

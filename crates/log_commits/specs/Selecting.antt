@@ -1,4 +1,4 @@
--- A commit whose last sync makes sure of a move of the start, too.
+-- A commit whose last sync also makes a move of the start durable.
 use Rattle.std.specs.Prelude.{⊤, ◌⊎◌, ◌<◌, ℕ, Bool, List, [], ◌∷◌, Option, Some, None}
 use Rattle.device.specs.declared.device.Device.{Ghosts}
 use Rattle.device.specs.Device.{Only}
@@ -12,26 +12,27 @@ use Rattle.log_commits.specs.Tail.{TailValue}
 use Rattle.log_commits.specs.Commit.{MayCommit, RefusesTailCommit, commit_bytes, works_with}
 use Rattle.log_commits.specs.Behind.{MayMove, select_works}
 
--- the last device calls of a commit: it selects the start that doesn't count, where the second or the first one counts
+-- The last device calls of a commit. They may select the unselected start; `second` is whether the second start is
+-- selected before.
 abbrev pub last_works : Option Bool → List Work
 last_works None = Sync ∷ []
 last_works (Some second) = select_works second
 
--- the device calls of a commit that selects a start: the byte is written once the commit is sealed, and the sync that
--- makes sure of the seal makes sure of the byte
+-- The device calls of a commit that selects a start. The selecting byte is written once the commit is sealed. One sync
+-- makes the seal and this byte durable.
 abbrev pub selecting_works : TailValue → Bool → List ℕ → List ℕ → List Work
 selecting_works t second homes records =
     works_with t.log.sealing t.log.ring t.position (commit_bytes t homes records) (select_works second)
 
--- why it isn't made: as any commit, or as a move
+-- The refusals of such a commit: those of any commit, and those of a move.
 abbrev pub RefusesSelecting : TailValue → OldCommits → List ℕ → ℕ → CommitFault → Type 0
 RefusesSelecting t oldest homes room Start =
     (t.used < oldest.blocks) ⊎ (oldest.below < t.start.number) ⊎ (t.number < oldest.below)
 RefusesSelecting t oldest homes room Device = MayCommit t homes room × MayMove t oldest
 RefusesSelecting t oldest homes room fault = RefusesTailCommit t homes room fault
 
--- Before such a commit the start is written. Where a byte seals, its first sync makes sure of that. Where a digest
--- seals, it makes no sync before the byte, so all has to be sure already.
+-- The start is written before such a commit. If a byte seals, the commit's first sync makes the start durable. If a
+-- digest seals, no sync precedes the selecting byte, so all must be durable already.
 abbrev pub IsSureBy : {D : Type 0} → Ghosts D → Sealing → D → Type 0
 IsSureBy disk ByByte device = ⊤
 IsSureBy disk (ByDigest key) device = Only (disk.may_leave device) (disk.seen device)

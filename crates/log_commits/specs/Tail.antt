@@ -1,4 +1,4 @@
--- The end of a log, as a session knows it, and what it stands for.
+-- The end of a log, as a session knows it, and what it means for the bytes of the volume.
 use Rattle.std.specs.Prelude.{⊤, ◌≡◌, ◌≢◌, ℕ, ◌+◌, ◌-◌, ◌*◌, ◌%◌, ◌<◌, ◌≤◌, Bool, List, [], ◌∷◌, length, slice_index}
 use Rattle.volume_codec.specs.Layout.{block_at}
 use Rattle.log_codec.specs.declared.sealing.Sealing.{Sealing}
@@ -9,8 +9,8 @@ use Rattle.log_codec.specs.Start.{HasLogStart}
 use Rattle.log_codec.specs.Commit.{LogDescriptor}
 use Rattle.log_codec.specs.Chain.{IsNextCommit, IsLogHome, position_after, chain_end, chain_blocks, contents_of_log}
 
--- the log, the start that counts, the position and the number of the next commit, the blocks in use from the start on,
--- and whether a device call has failed
+-- The log, the selected start, the position and the number of the next commit, the number of blocks in use, and whether
+-- a device call has failed.
 pub record TailValue : Type 0 where
   pub log : LogValue
   pub start : LogStart
@@ -19,7 +19,7 @@ pub record TailValue : Type 0 where
   pub used : ℕ
   pub spent : Bool
 
--- a tail that may be
+-- The rules of a tail.
 pub record IsTail (t : TailValue) : Type 0 where
   pub log : IsLog t.log
   pub within : t.position < t.log.ring
@@ -36,26 +36,26 @@ tail_at log start spent = record {
   spent = spent;
 }
 
--- these commits can be read from position p on, one after another, each with the next number; more may follow
+-- These commits can be read from position `p` on, in order, each with the next number. More may follow.
 abbrev pub AreRead : LogValue → ℕ → ℕ → ℕ → ℕ → List LogDescriptor → List ℕ → Type 0
 AreRead g epoch p number left [] bytes = ⊤
 AreRead g epoch p number left (d ∷ ds) bytes =
     IsNextCommit g epoch p number left d bytes
     × AreRead g epoch (position_after p d) (number + 1) (left - log_commit_blocks (length d.homes)) ds bytes
 
--- these bytes hold a log with this start and these commits first; more may follow
+-- `bytes` contain a log with this start, whose first commits are `chain`. More may follow.
 pub record BeginsLog (g : LogValue) (s : LogStart) (chain : List LogDescriptor) (bytes : List ℕ) : Type 0 where
   pub long : 4096 * g.blocks ≤ length bytes
   pub start : HasLogStart g.ring s bytes
   pub commits : AreRead g s.epoch s.position s.number g.ring chain bytes
 
--- A next commit may be written at position p. Where a byte seals, the seal there is closed. Where a digest seals, any
--- bytes may lie there.
+-- The next commit may be written at position `p`. If a byte seals, the seal there is closed. If a digest seals, any
+-- bytes may be there.
 abbrev pub MayGoOn : Sealing → ℕ → ℕ → List ℕ → Type 0
 MayGoOn ByByte ring p bytes = slice_index (block_at bytes (ring_block ring p)) 0 ≢ 0xA7
 MayGoOn (ByDigest key) ring p bytes = ⊤
 
--- these bytes hold the log before this tail, with these contents
+-- `bytes` contain the log before this tail, with these contents.
 pub record HoldsLog (t : TailValue) (contents : ℕ → List ℕ) (bytes : List ℕ) : Type 0 where
   pub chain : List LogDescriptor
   pub log : BeginsLog t.log t.start chain bytes
@@ -65,8 +65,8 @@ pub record HoldsLog (t : TailValue) (contents : ℕ → List ℕ) (bytes : List 
   pub used_is : t.used ≡ chain_blocks chain
   pub contents_are : (b : ℕ) → IsLogHome t.log b → contents b ≡ contents_of_log t.log t.start.position chain bytes b
 
--- These bytes have no commit with the next number at this tail, however much room it has. Where a byte seals, bytes
--- that hold the log have none.
+-- These bytes contain no commit with the next number at this tail, even if it had the room of the whole log. If a byte
+-- seals, this holds of all bytes that contain the log.
 abbrev pub EndsAtTailBy : Sealing → TailValue → List ℕ → Type 0
 EndsAtTailBy ByByte t bytes = ⊤
 EndsAtTailBy (ByDigest key) t bytes =
@@ -75,7 +75,7 @@ EndsAtTailBy (ByDigest key) t bytes =
 abbrev pub EndsAtTail : TailValue → List ℕ → Type 0
 EndsAtTail t bytes = EndsAtTailBy t.log.sealing t bytes
 
--- These bytes hold a log whose commits below this number have these contents, by whichever start. More may follow.
+-- `bytes` contain a log, with any start, whose commits below this number have these contents. More may follow.
 pub record HoldsUpTo (g : LogValue) (number : ℕ) (contents : ℕ → List ℕ) (bytes : List ℕ) : Type 0 where
   pub start : LogStart
   pub chain : List LogDescriptor

@@ -1,4 +1,4 @@
--- Runs over a disk that shows the volume with a log of a device.
+-- Runs over a disk that shows a device's volume with a log.
 use Rattle.std.specs.Prelude.{ℕ, ◌≡◌, ◌⊎◌, false, List, [], Err}
 use Rattle.device.specs.declared.device.Device.{Ghosts}
 use Rattle.device.specs.Memory.{new_disk}
@@ -14,21 +14,21 @@ use Rattle.crash_states.specs.Calls.{DeviceCall, ListedDisk, ListsItsCalls, list
 use Rattle.crash_table.specs.Calls.{listing_memory, StepsCountedBy}
 use Rattle.crash_table.specs.Crashes.{HasEnded}
 
--- A device was opened by its log, and a run over the disk that shows its volume ended so, after as many steps as there
--- are replies. Or a device call failed as it was opened, and no step was made.
+-- A device was opened by its log, and a run over the disk that shows its volume ended. It had these replies, one for
+-- each step that was made. Or a device call failed during the opening, and no step was made.
 abbrev pub HasEndedByLog : {D : Type 0} → Ghosts D → D → Shape → List Step → List Reply → D → Type 0
 HasEndedByLog {D} disk before shape steps replies after =
     ((shown last : LogDiskValue D) × HasShown disk before shown
     × HasEnded (shown_by disk) shown shape steps replies last × (after ≡ last.device))
     ⊎ ((replies ≡ []) × IsCountedDisk {X = LogDiskValue D} disk before (Err Device) after)
 
--- the number of calls of the disk in memory under the disk that shows its volume
+-- The number of calls of the disk in memory below the disk that shows its volume.
 abbrev pub calls_below : LogDiskValue ListedDisk → ℕ
 calls_below shown = shown.device.made
 
--- A run was made over the disk that shows a volume with a log, on a disk in memory that lists its calls: these were its
--- replies, the numbers of calls of that disk in memory after each, and all its calls, in order, with what they did,
--- where, and what they wrote. None of them failed.
+-- A run was made over the disk that shows a volume with a log. Below it, a disk in memory lists its calls. `replies`
+-- are the run's replies, and `counts` the numbers of that disk's calls after each. `calls` are all its calls, in order,
+-- with their kinds, their places and the bytes written. None failed.
 pub record AreMadeByLog (before : ListedDisk) (shape : Shape) (steps : List Step) (replies : List Reply)
     (counts : List ℕ) (calls : List DeviceCall) : Type 0 where
   pub shown : LogDiskValue ListedDisk
@@ -43,7 +43,7 @@ pub record AreMadeByLog (before : ListedDisk) (shape : Shape) (steps : List Step
   pub listed : calls ≡ last.device.device.calls
   pub are_its : ListsItsCalls last.device.device
 
--- these are the replies and the device calls of a run over a disk with these bytes
+-- These are the replies and the device calls of a run over a disk with the bytes `image`.
 abbrev pub AreCallsByLog : List ℕ → Shape → List Step → List Reply → List ℕ → List DeviceCall → Type 0
 AreCallsByLog image shape steps replies counts calls =
     AreMadeByLog (listing (new_disk image) 0) shape steps replies counts calls

@@ -10,20 +10,20 @@ use Rattle.crash_states.specs.declared.crash_fault.CrashFault.TheVariants.{Memor
 use Rattle.crash_table.specs.Marks.{contents_of}
 use Rattle.crash_table.specs.Trials.{cause_of}
 
--- the bytes of the volume with a log, the bytes of its files, and the bytes of the volume in layout 4
+-- The bytes of the volume with a log, the bytes of its files, and the bytes of the volume in layout 4.
 pub record TwinValue : Type 0 where
   pub image : List ℕ
   pub files : List (List ℕ)
   pub shown : List ℕ
 
--- both volumes recover to the same files, whose bytes these are
+-- Both volumes recover to the same files, and `files` are the bytes of these.
 pub record IsTwin (twin : TwinValue) : Type 0 where
   pub found : List File
   pub by_log : RecoversToLog twin.image found
   pub by_journals : RecoversTo twin.shown found
   pub bytes_are : twin.files ≡ contents_of found
 
--- why there is none of these bytes: memory was refused, or no disk shows them
+-- Why these bytes have no twin: memory was refused, or no disk shows them.
 abbrev pub HasNoTwin : List ℕ → CrashFault → Type 0
 HasNoTwin image why = (why ≡ Memory alloc_error)
     ⊎ ((refusal : Refusal) × (why ≡ cause_of refusal) × RefusesDisk image refusal)

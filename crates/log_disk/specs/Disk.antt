@@ -7,9 +7,9 @@ use Rattle.volume_codec.specs.Super.{SuperValue}
 use Rattle.log_codec.specs.declared.start.LogStart.{LogStart}
 use Rattle.log_volume.specs.Super.{LogSuperValue}
 
--- The device of the volume, what its super block says, what that of the disk says, and the start that the opening
--- wrote. To its users the disk is one in memory, with this record of its calls. At each moment so far, the disk and the
--- device each had one of their own.
+-- The volume's device, the volume's super block, the super block that the disk shows, and the start that the opening
+-- wrote. To its users, the disk is a disk in memory that recorded its calls in `memory`. `moments` pairs the moments so
+-- far: one of the disk, and one of the device.
 pub record LogDiskValue (D : Type 0) : Type 0 where
   pub device : D
   pub volume : LogSuperValue
@@ -18,11 +18,12 @@ pub record LogDiskValue (D : Type 0) : Type 0 where
   pub memory : Recorded
   pub moments : List (ℕ × ℕ)
 
--- one number for a moment of the disk and one of the device: another pair of moments has another number
+-- One number for a moment of the disk and a moment of the device. Different pairs have different numbers.
 abbrev pub joint_moment : ℕ → ℕ → ℕ
 joint_moment u r = (u + r) * (u + r) + r
 
--- What a crash since this moment might have left of the disk. Of a number that is no moment of it, nothing is said.
+-- What a crash since this moment might have left of the disk. If `t` isn't the number of a moment, any bytes are
+-- allowed.
 abbrev pub left_at : {D : Type 0} → (D → ℕ) → LogDiskValue D → ℕ → List ℕ → Type 0
 left_at moment disk t w = AllByRecursion
     (λ m. joint_moment m.0 m.1 ≡ t → m.0 ≤ moment_of disk.memory → left_since_of disk.memory m.0 w)
@@ -31,7 +32,7 @@ left_at moment disk t w = AllByRecursion
 abbrev pub moment_in : {D : Type 0} → (D → ℕ) → LogDiskValue D → ℕ
 moment_in moment disk = joint_moment (moment_of disk.memory) (moment disk.device)
 
--- The disk as a device, over a device. It is as honest as that.
+-- The disk as a device, over another device. It is honest if that device is.
 abbrev pub shown_by : {D : Type 0} → Ghosts D → Ghosts (LogDiskValue D)
 shown_by disk = record {
   seen = λ shown. seen_of shown.memory;

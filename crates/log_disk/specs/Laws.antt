@@ -1,4 +1,4 @@
--- What a crash of the volume's device leaves, by what one of the disk might have left.
+-- What a crash of the volume's device leaves, compared with what a crash of the disk might have left.
 use Rattle.std.specs.Prelude.{◌≡◌, ℕ, List}
 use Rattle.device.specs.Memory.{seen_of}
 use Rattle.device.specs.declared.device.Device.{Ghosts}
@@ -6,20 +6,20 @@ use Rattle.log_disk.specs.Serving.{StandsFor}
 use Rattle.log_disk.specs.Disk.{LogDiskValue, left_at, moment_in}
 use Rattle.log_disk.specs.Made.{IsTold}
 
--- these bytes of the device stand for one of these lists
+-- The bytes `c` of the device stand for (`StandsFor`) one of these lists.
 abbrev pub StandsForOne : (List ℕ → Type 0) → List ℕ → Type 0
 StandsForOne lists c = (w : List ℕ) × lists w × StandsFor c w
 
--- Since an earlier state of the disk, a crash of the device left bytes. If only commits can be read from them that the
--- disk made, they stand for some that a crash of the disk might have left.
+-- Let a crash of the device, since an earlier state of the disk, leave the bytes `c`. If only commits that the disk
+-- made can be read from them, they stand for bytes that a crash of the disk might have left.
 abbrev pub StandsSince : {D : Type 0} → Ghosts D → LogDiskValue D → LogDiskValue D → Type 0
 StandsSince disk old new = (c : List ℕ) → disk.left_since new.device (disk.moment old.device) c → IsTold new c
     → StandsForOne (left_at disk.moment new (moment_in disk.moment old)) c
 
--- what a crash of the device now leaves, and what the device has, stands for what the disk has
+-- If the device is honest, all that a crash may leave of it now stands for the bytes of the disk.
 abbrev pub Works : {D : Type 0} → Ghosts D → LogDiskValue D → Type 0
 Works disk d = disk.is_honest d.device → (c : List ℕ) → disk.may_leave d.device c → StandsFor c (seen_of d.memory)
 
--- so it is unless a call of the disk has failed
+-- `Works` holds, unless a call of the disk has failed.
 abbrev pub WorksUnlessFailed : {D : Type 0} → Ghosts D → LogDiskValue D → Type 0
 WorksUnlessFailed disk d = d.memory.faults ≡ 0 → Works disk d

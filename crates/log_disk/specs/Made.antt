@@ -1,4 +1,4 @@
--- The commits that a disk made to the log, by its own writes: each write that opens a gate is one.
+-- The commits that a disk made to the log. Each of the disk's writes that opens a gate makes one.
 use Rattle.std.specs.Prelude.{◌≡◌, ℕ, ◌+◌, ◌*◌, ◌==◌, ◌&&◌, if◌then◌else◌, Bool, false}
 use Rattle.std.specs.Prelude.{List, [], ◌∷◌, ◌++◌, length, map, slice_index}
 use Rattle.device.specs.Memory.{DiskChange, content_after}
@@ -12,30 +12,30 @@ use Rattle.log_commits.specs.Told.{TellsTorn}
 use Rattle.log_disk.specs.Serving.{volume_home}
 use Rattle.log_disk.specs.Disk.{LogDiskValue}
 
--- whether a change opens a gate: the disk writes single bytes to gates alone, and 0xA7 opens one
+-- Whether a change opens a gate: it writes the single byte 0xA7. The disk writes single bytes only to gates.
 abbrev pub opens_gate : DiskChange → Bool
 opens_gate (write at bytes) = (length bytes == 1) && (slice_index bytes 0 == 0xA7)
 opens_gate sync = false
 
--- how many of these changes do
+-- The number of these changes that open a gate.
 abbrev pub gates_opened : List DiskChange → ℕ
 gates_opened [] = 0
 gates_opened (change ∷ older) = gates_opened older + (if opens_gate change then 1 else 0)
 
--- the write that opens the gate of a batch
+-- The write that opens the gate of a batch.
 abbrev pub gate_write : SuperValue → Batch → DiskChange
 gate_write t batch = write (4096 * gate_block t.slots batch.journal) (0xA7 ∷ [])
 
--- the home blocks of the volume for those of a batch
+-- The home blocks of the volume that correspond to those of a batch.
 abbrev pub batch_homes : LogSuperValue → SuperValue → Batch → List ℕ
 batch_homes v t batch = map (volume_home v t) batch.homes
 
--- its records, in bytes of the disk
+-- The records of a batch, in bytes of the disk.
 abbrev pub batch_records : SuperValue → Batch → List ℕ → List ℕ
 batch_records t batch bytes = blocks_at bytes (record_block t.slots batch.journal 0) (length batch.homes)
 
--- A commit that the disk made, with its records: it opened the gate of this batch. The first one has the number of the
--- start that the opening wrote.
+-- `d` is a commit that the disk made with these records: the disk opened the gate of this batch. The first such commit
+-- has the number of the start that the opening wrote.
 pub record IsCommitOf {D : Type 0} (disk : LogDiskValue D) (d : LogDescriptor) (records : List ℕ) : Type 0 where
   pub batch : Batch
   pub newer : List DiskChange
@@ -48,7 +48,7 @@ pub record IsCommitOf {D : Type 0} (disk : LogDiskValue D) (d : LogDescriptor) (
   pub records_are : records
       ≡ batch_records disk.table batch (content_after disk.memory.first (gate_write disk.table batch ∷ older))
 
--- The premise on bytes that a crash left of the device: each commit since the opening that can be read from them was
--- made by the disk. Where a byte seals, there is no premise.
+-- The premise on bytes that a crash left of the device: the disk made each commit since the opening that can be read
+-- from them. If a byte seals, there is no premise.
 abbrev pub IsTold : {D : Type 0} → LogDiskValue D → List ℕ → Type 0
 IsTold disk c = TellsTorn (IsCommitOf disk) (log_of disk.volume) disk.log_start.number c

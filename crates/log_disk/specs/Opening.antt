@@ -15,17 +15,18 @@ use Rattle.log_opening.specs.Volume.{HasOpenedVolume, RefusesVolume}
 use Rattle.log_disk.specs.Serving.{IsShownTable}
 use Rattle.log_disk.specs.Disk.{LogDiskValue}
 
--- n bytes: the first of these, and zeros where they are fewer
+-- `n` bytes: the first of these bytes, then zeros if there are fewer.
 abbrev pub fitted : ℕ → List ℕ → List ℕ
 fitted n bytes = padded n (take n bytes)
 
--- what the disk has that shows these bytes: its super block, zeros up to its home blocks, and those of the volume
+-- The bytes of the disk that shows these bytes: its super block, zeros up to its home blocks, then the home blocks of
+-- the volume.
 abbrev pub shown_bytes : LogSuperValue → SuperValue → List ℕ → List ℕ
 shown_bytes v t bytes =
     padded (4096 * first_home t.layout t.slots) (super_text t)
     ++ fitted (4096 * (block_count t - first_home t.layout t.slots)) (drop (4096 * first_log_home v.ring) bytes)
 
--- the disk over this device before its first call: it shows the bytes that the device has, and all of it is synced
+-- The disk over this device before its first call. It shows the bytes of the device, and all of it is synced.
 abbrev pub opened_disk : {D : Type 0} → Ghosts D → LogSuperValue → SuperValue → LogStart → D → LogDiskValue D
 opened_disk disk v t start device = record {
   device = device;
@@ -36,18 +37,18 @@ opened_disk disk v t start device = record {
   moments = (0, disk.moment device) ∷ [];
 }
 
--- the device was opened, and the disk is over it
+-- The device `old` was opened, and the disk `new` is over it.
 pub record HasOpenedDisk {D : Type 0} (disk : Ghosts D) (old : D) (new : LogDiskValue D) : Type 0 where
   pub lengths : List ℕ
   pub opened : HasOpenedVolume disk old new.volume lengths new.log_start new.device
 
--- a device was opened, and this disk shows its volume
+-- A device was opened, and the disk `shown` shows its volume.
 pub record HasShown {D : Type 0} (disk : Ghosts D) (before : D) (shown : LogDiskValue D) : Type 0 where
   pub opened : disk.is_honest before → HasOpenedDisk disk before shown
   pub fresh : shown ≡ opened_disk disk shown.volume shown.table shown.log_start shown.device
   pub table : IsShownTable shown.volume shown.table
 
--- how an opening ended, and the device that it leaves
+-- The result of an opening, and the device that it leaves.
 abbrev pub disk_result : {D : Type 0} → Result (LogDiskValue D) (Refusal × D) → Result (LogDiskValue D) Refusal
 disk_result (Ok disk) = Ok disk
 disk_result (Err refused) = Err refused.0
@@ -56,24 +57,25 @@ abbrev pub disk_leaves : {D : Type 0} → Result (LogDiskValue D) (Refusal × D)
 disk_leaves (Ok disk) = disk.device
 disk_leaves (Err refused) = refused.1
 
--- why no disk shows a volume: it would have too many blocks
+-- Why no disk shows a volume: the disk would have too many blocks, or memory was refused.
 abbrev pub RefusesShown : LogSuperValue → Refusal → Type 0
 RefusesShown v BadShape = (t : SuperValue) → IsShownTable v t → ⊥
 RefusesShown v OutOfMemory = ⊤
 RefusesShown v _ = ⊥
 
--- why a device with these bytes isn't opened as a disk: no disk shows its volume, or the volume isn't opened
+-- Why a device with these bytes isn't opened as a disk: no disk can show its volume, or the volume isn't opened.
 abbrev pub RefusesDisk : List ℕ → Refusal → Type 0
 RefusesDisk bytes BadShape =
     (v : LogSuperValue) × IsLogSuper v (block_at bytes 0) × ((t : SuperValue) → IsShownTable v t → ⊥)
 RefusesDisk bytes refusal = RefusesVolume bytes refusal
 
--- how many calls failed, by the result: none where no disk shows the volume
+-- The number of failed calls rose from `old` to `new` as the result requires. If no disk can show the volume, no call
+-- failed.
 abbrev pub HasDiskFaults : {X : Type 0} → ℕ → ℕ → Result X Refusal → Type 0
 HasDiskFaults old new (Err BadShape) = new ≡ old
 HasDiskFaults old new result = HasFaults old new result
 
--- the device is as long and as honest as before, and its calls failed as the result says
+-- The device is as long and as honest as before, and the number of its failed calls agrees with the result.
 pub record IsCountedDisk {D X : Type 0} (disk : Ghosts D) (old : D) (result : Result X Refusal) (new : D)
     : Type 0 where
   pub honest : disk.is_honest new ↔ disk.is_honest old

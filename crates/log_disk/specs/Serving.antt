@@ -9,8 +9,8 @@ use Rattle.log_codec.specs.Log.{IsCommitSize, first_log_home}
 use Rattle.log_volume.specs.Super.{LogSuperValue}
 use Rattle.log_volume.specs.Files.{RecoversToLog}
 
--- what the super block of the disk says: the same files in layout 4, and a record slot for each record that a commit to
--- the log may have
+-- The super block of the disk: the same files in layout 4, and a record slot for each record that a commit to the log
+-- may have.
 pub record IsShownTable (v : LogSuperValue) (t : SuperValue) : Type 0 where
   pub layout : t.layout ≡ Four
   pub files : t.files ≡ v.files
@@ -18,11 +18,12 @@ pub record IsShownTable (v : LogSuperValue) (t : SuperValue) : Type 0 where
   pub most : (n : ℕ) → IsCommitSize v.ring n → n ≤ t.slots
   pub fits : Fits t
 
--- the home block of the volume for one of the disk: both begin with the lengths, and files follow in the same order
+-- The home block of the volume that corresponds to home block `b` of the disk. Both volumes begin with the lengths, and
+-- their files follow in the same order.
 abbrev pub volume_home : LogSuperValue → SuperValue → ℕ → ℕ
 volume_home v t b = b + first_log_home v.ring - first_home t.layout t.slots
 
--- Bytes c of the volume's device stand for bytes w of the disk: where these recover to files, those do, too, by their
--- log.
+-- Bytes `c` of the volume's device stand for bytes `w` of the disk: if `w` recover to files, `c` recover to the same
+-- files by their log.
 abbrev pub StandsFor : List ℕ → List ℕ → Type 0
 StandsFor c w = (files : List File) → RecoversTo w files → RecoversToLog c files

@@ -1,4 +1,4 @@
--- A run on a volume with a log: it is opened as a disk, a machine is booted over that, and steps are made.
+-- A run on a volume with a log: the volume is opened as a disk, a machine is booted over the disk, and steps are made.
 use Rattle.std.specs.Prelude.{◌≡◌, ◌≢◌, ◌⊎◌, ℕ, List, Err}
 use Rattle.device.specs.declared.device.Device.{Ghosts}
 use Rattle.page_entry.specs.declared.refusal.Refusal.{Refusal}
@@ -17,8 +17,8 @@ use Rattle.log_disk.specs.Opening.{HasShown, IsCountedDisk, RefusesDisk}
 use Rattle.log_engine.specs.Openings.{FindsOnLog, KeepsOnLog}
 use Rattle.log_engine.specs.Survival.{AnyBytes, AreAnswered, EndsOnLog, StaysOnLog, SurvivesOnLog}
 
--- A run over the device of a volume with a log: a machine was started over the disk that shows it, and these steps were
--- made and answered so.
+-- A run over the device of a volume with a log. A machine was started over the disk that shows the volume. It made
+-- these steps with these replies.
 pub record HasRunOnLog {D : Type 0} (disk : Ghosts D) (before : D) (shape : Shape) (steps : List Step)
     (replies : List Reply) (after : D) : Type 0 where
   pub shown : LogDiskValue D
@@ -26,11 +26,12 @@ pub record HasRunOnLog {D : Type 0} (disk : Ghosts D) (before : D) (shape : Shap
   pub last : Whole (LogDiskValue D)
   pub is_shown : HasShown disk before shown
   pub started : HasStarted (shown_by disk) shown shape start
-  -- each reply by the rules, and the calls of the disk by each step
+  -- Each reply obeys the rules, and each step makes its calls of the disk.
   pub made : StepsTaken (shown_by disk) start steps replies last
   pub ended : after ≡ last.device.device
-  -- Over an honest device, replies are by the laws, from the files to which it recovered before, and what was stored in
-  -- them survives. If no call of the disk failed, it is found after the last step, of any bytes.
+  -- If the device was honest, its bytes recovered to files before. The replies obey the laws from these files, and what
+  -- was stored in the files survives. If no call of the disk failed, this is found after the last step without a
+  -- premise on the bytes.
   pub survives : disk.is_honest before → (files : List File) × RecoversToLog (disk.seen before) files
       × AreAnswered files start steps replies
       × SurvivesOnLog disk files before shown start steps replies last
@@ -42,13 +43,14 @@ pub record HasNotShown {D : Type 0} (disk : Ghosts D) (before : D) (refusal : Re
   -- Nothing is written, unless a device call or memory failed, or the disk would have too many blocks.
   pub unwritten : refusal ≢ Device → refusal ≢ BadShape → refusal ≢ OutOfMemory → HasWrittenNothing disk before after
   pub counted : IsCountedDisk {X = LogDiskValue D} disk before (Err refusal) after
-  -- Files to which all recovers that a crash might have left before are found after it, and after a crash within it.
+  -- If all bytes that a crash might have left before recover to the same files, these are found afterwards, and after a
+  -- crash within the opening.
   pub kept : disk.is_honest before → (files : List File)
       → ((c : List ℕ) → disk.may_leave before c → RecoversToLog c files)
       → KeepsOnLog disk files (disk.left_since after (disk.moment before)) × FindsOnLog disk files after
 
--- Nothing was run, since no machine of this shape was booted over the disk: the disk serves none, or a device call or
--- memory failed.
+-- Nothing was run, since no machine of this shape was booted over the disk: the disk can't serve one, or a device call
+-- or memory failed.
 pub record HasNotBooted {D : Type 0} (disk : Ghosts D) (before : D) (shape : Shape) (refusal : Refusal) (after : D)
     : Type 0 where
   pub shown : LogDiskValue D
@@ -56,7 +58,7 @@ pub record HasNotBooted {D : Type 0} (disk : Ghosts D) (before : D) (shape : Sha
   pub left : LogDiskValue D
   pub refused : HasNotStarted (shown_by disk) shown shape left refusal
   pub ended : after ≡ left.device
-  -- Over an honest device, the files to which it recovered before are found after it.
+  -- If the device was honest, the files to which it recovered before are found afterwards.
   pub kept : disk.is_honest before → (files : List File) × RecoversToLog (disk.seen before) files
       × StaysOnLog disk files before shown.device left
 

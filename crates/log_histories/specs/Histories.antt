@@ -1,4 +1,4 @@
--- Histories of the calls of the files of a volume with a log.
+-- Histories of the calls on the files of a volume with a log.
 use Rattle.std.specs.Prelude.{ℕ, ◌≡◌, ◌≢◌, ◌+◌, ◌*◌, List, [], ◌∷◌, ◌++◌, Bool, true, length, None}
 use Rattle.page_entry.specs.declared.numbers.FilePage.{FilePage}
 use Rattle.device.specs.Device.{LeavesOnly}
@@ -26,41 +26,42 @@ use Rattle.log_files.specs.Calls.{after_log_length}
 
 -- ---- commits, and what is trusted of bytes that a crash left
 
--- the commit of what was put, with its records
+-- The next commit: that of the staged blocks, with its records.
 abbrev pub IsCommitPut : {D : Type 0} → LogFilesState D → LogDescriptor → List ℕ → Type 0
 IsCommitPut s = IsThis (next_logged s.pager.store.tail (homes_in s.pager.staged)) (records_put s.pager.staged)
 
--- each commit with the number of this state's next one or a later number that can be read from these bytes was made;
--- where a byte seals, nothing is trusted
+-- The premise on bytes that a crash left, if a digest seals commits. Each commit that can be read from them, with this
+-- state's next number or a later one, was made. If a byte seals commits, there is no premise.
 abbrev pub TellsSince : {D : Type 0} → LogFilesState D → (LogDescriptor → List ℕ → Type 0) → List ℕ → Type 0
 TellsSince s Made c = TellsTorn Made s.pager.store.tail.log s.pager.store.tail.number c
 
 -- ---- calls
 
--- the home blocks keep the contents that the commits left
+-- The home blocks keep the contents that the commits left.
 abbrev pub KeepsContents : {D : Type 0} → Ghosts D → LogFilesState D → LogFilesState D → Type 0
 KeepsContents disk s next =
     (contents : ℕ → List ℕ) → IsPagerOver disk s.pager contents → IsPagerOver disk next.pager contents
 
--- a page of these bytes is put: what `put` ensures
+-- A page of these bytes was put. This is what `put` ensures.
 pub record IsLogPut {D : Type 0} (disk : Ghosts D) (s : LogFilesState D) (owner : FilePage) (bytes : List ℕ)
     : Type 0 where
   pub admitted : log_put_refusal s owner ≡ None
   pub a_page : length bytes ≡ 4096
   pub over : KeepsContents disk s (after_page_put s owner bytes)
 
--- the device was only read: what `read` ensures, and so do refused calls
+-- The device was only read. This is what `read` ensures, as do refused calls.
 pub record IsLogRead {D : Type 0} (disk : Ghosts D) (s : LogFilesState D) (after : D) : Type 0 where
   pub read : IsOnlyRead disk s.pager.device after
   pub over : KeepsContents disk s (on_device s after)
 
--- nothing changed but room for notes about the log: what a refused commit ensures
+-- Nothing changed, except possibly the memory that is reserved for the log's index. This is what a refused commit
+-- ensures.
 pub record IsLogRefused {D : Type 0} (disk : Ghosts D) (s next : LogFilesState D) : Type 0 where
   pub kept : KeepsLogFiles s next
   pub over : KeepsContents disk s next
 
--- The device calls of a commit of what was put, all of them or up to one that failed, over an honest device, and what a
--- crash within them leaves.
+-- The device calls of a commit of the staged blocks, over an honest device, and what a crash within them leaves. All of
+-- the calls were made if `done`, or else those up to one that failed.
 pub record IsLogCommitting {D : Type 0} (disk : Ghosts D) (s : LogFilesState D) (done : Bool) (after : D)
     : Type 0 where
   pub honest : disk.is_honest s.pager.device
@@ -71,19 +72,20 @@ pub record IsLogCommitting {D : Type 0} (disk : Ghosts D) (s : LogFilesState D) 
       → LeavesOnly disk.moment disk.left_since s.pager.device after
       (LeftByPut s.pager.store.tail contents s.pager.staged)
 
--- what was put is committed: what `commit` ensures
+-- The staged blocks were committed. This is what `commit` ensures.
 pub record IsLogCommitted {D : Type 0} (disk : Ghosts D) (s next : LogFilesState D) : Type 0 where
   pub calls : IsLogCommitting disk s true next.pager.device
   pub made : IsLogFilesCommit disk s next
   pub over : (contents : ℕ → List ℕ) → IsPagerOver disk s.pager contents
       → IsPagerOver disk next.pager (contents_put contents s.pager.staged)
 
--- a commit of nothing
+-- A commit without staged blocks.
 pub record IsEmptyLogCommit {D : Type 0} (s : LogFilesState D) : Type 0 where
   pub admitted : log_commit_refusal s ≡ None
   pub none : s.pager.staged ≡ []
 
--- The device calls of a step, all of them or up to one that failed, over an honest device. They change no contents.
+-- The device calls of a step, over an honest device. All of them were made if `done`, or else those up to one that
+-- failed. They change no contents.
 pub record IsLogStepping {D : Type 0} (disk : Ghosts D) (s : LogFilesState D) (done : Bool) (after : D)
     : Type 0 where
   pub honest : disk.is_honest s.pager.device
@@ -92,14 +94,14 @@ pub record IsLogStepping {D : Type 0} (disk : Ghosts D) (s : LogFilesState D) (d
   pub leaves : (contents : ℕ → List ℕ) → IsPagerOver disk s.pager contents
       → LeavesOnly disk.moment disk.left_since s.pager.device after (LeftUnchanged s.pager.store.tail contents)
 
--- that step is made: what `step` ensures
+-- That step was made. This is what `step` ensures.
 pub record IsLogStepped {D : Type 0} (disk : Ghosts D) (s : LogFilesState D) (progress : Progress)
     (next : LogFilesState D) : Type 0 where
   pub calls : IsLogStepping disk s true next.pager.device
   pub made : IsLogFilesStep disk s progress next
   pub over : KeepsContents disk s next
 
--- a file's length becomes another: what `set_length` ensures
+-- A file's length changed. This is what `set_length` ensures.
 pub record IsLogResize {D : Type 0} (disk : Ghosts D) (s : LogFilesState D) (file to : ℕ) (next : LogFilesState D)
     : Type 0 where
   pub admitted : log_length_refusal s file to ≡ None
@@ -109,7 +111,8 @@ pub record IsLogResize {D : Type 0} (disk : Ghosts D) (s : LogFilesState D) (fil
       → next ≡ after_log_length s file to (last_log_page s contents file) next.pager.device
   pub over : KeepsContents disk s next
 
--- Calls led from this state to another one, and added these events to the history. A commit is durable once it is made.
+-- Calls led from the state `start` to another one, and added these events to the history. A commit is durable when it
+-- is made.
 pub data HasGoneLog {D : Type 0} (disk : Ghosts D) (start : LogFilesState D)
     : List Event → LogFilesState D → Type 0 where
   LogStays : HasGoneLog disk start [] start
@@ -133,14 +136,14 @@ pub data HasGoneLog {D : Type 0} (disk : Ghosts D) (start : LogFilesState D)
       → IsLogResize disk s file to next → HasGoneLog disk start events s
       → HasGoneLog disk start (events ++ SetLength file (file_length s.lengths file) to ∷ []) next
 
--- a volume was just opened: what `open` ensures
+-- A volume was just opened. This is what `open` ensures.
 pub record IsJustOpened {D : Type 0} (disk : Ghosts D) (before : D) (s : LogFilesState D) : Type 0 where
   pub opened : HasOpenedVolume disk before s.table s.lengths s.pager.store.tail.start s.pager.device
   pub begins : s
       ≡ fresh_log_files s.table s.lengths s.most s.pager.store.tail.start s.pager.store.second s.pager.device
   pub over : IsPagerOver disk s.pager (block_at (disk.seen s.pager.device))
 
--- Calls have led to this state since a volume was opened, which had these files; and the history of the calls.
+-- Calls have led to this state since a volume with these files was opened. `history` is the history of the calls.
 pub record HasComeLog {D : Type 0} (disk : Ghosts D) (files : List File) (history : List Event) (s : LogFilesState D)
     : Type 0 where
   pub before : D
@@ -151,7 +154,7 @@ pub record HasComeLog {D : Type 0} (disk : Ghosts D) (files : List File) (histor
 
 -- ---- what a crash may leave
 
--- these bytes recover to the files after a durable prefix of the history
+-- These bytes recover to the files after a durable prefix of the history.
 pub record ReadsBackLog (files : List File) (history : List Event) (c : List ℕ) : Type 0 where
   pub prefix : List Event
   pub durable : IsDurablePrefix prefix history

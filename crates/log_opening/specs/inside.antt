@@ -1,4 +1,4 @@
--- What ties the private code of this crate to its definitions; no public contract names it.
+-- Definitions that connect the private code of this crate to its public definitions. No public contract names them.
 pub mod Keeping
 pub mod Places
 pub mod Found

@@ -1,4 +1,4 @@
--- A pager over a log: blocks that were put since the last commit, and the store of the commits.
+-- A pager over a log: the blocks that were put since the last commit (the staged blocks), and the store of the commits.
 use Rattle.std.specs.Prelude.{⊤, ◌≡◌, ◌⊎◌, ℕ, ◌+◌, ◌*◌, ◌<◌, ◌≤◌, ◌||◌, nat_lt, if◌then◌else◌, List, length, is_some}
 use Rattle.std.specs.Prelude.{None, unwrap_or}
 use Rattle.volume_codec.specs.Descriptor.{RiseWithin}
@@ -15,38 +15,40 @@ use Rattle.log_store.specs.Store.{store_read_calls}
 use Rattle.log_pager.specs.declared.fault.PagerFault.{PagerFault}
 use Rattle.log_pager.specs.declared.fault.PagerFault.TheVariants.{Full, Short, Store}
 
--- the records of a commit of these blocks
+-- The records of a commit of these blocks.
 abbrev pub records_put : Blocks → List ℕ
 records_put blocks = all_bytes blocks
 
--- the store, the blocks that were put since the last commit, and the device
+-- The store, the staged blocks, and the device.
 pub record LogPagerValue (D : Type 0) : Type 0 where
   pub store : StoreValue
   pub staged : Blocks
   pub device : D
 
--- the bytes that a home block has for callers: those that were put last, else those of the commits
+-- The bytes that callers see in a home block: the staged ones if there are any, or else those that the commits left.
 abbrev pub contents_put : (ℕ → List ℕ) → Blocks → ℕ → List ℕ
 contents_put contents staged b = unwrap_or (bytes_in staged b) (contents b)
 
--- The pager is over its device: the store is, the volume fits the device, and what was put are blocks of the volume.
+-- The pager agrees with its device: its store does, the volume fits the device, and the staged blocks are blocks of the
+-- volume.
 pub record IsPagerOver {D : Type 0} (disk : Ghosts D) (s : LogPagerValue D) (contents : ℕ → List ℕ) : Type 0 where
   pub store : IsStoreOver disk s.store contents s.device
   pub long : 4096 * s.store.tail.log.blocks ≤ length (disk.seen s.device)
   pub rising : RiseWithin (first_log_home s.store.tail.log.ring) s.store.tail.log.blocks (homes_in s.staged)
 
--- What a crash within a commit of blocks leaves: the commits before it. With all of the blocks, or with none, that is
--- all, if the digest tells a torn commit from a whole one.
+-- What a crash within a commit of blocks leaves. The bytes contain the commits before it. They recover to contents with
+-- all of the blocks, or with none. If a digest seals commits, this requires that no torn commit has the digest of a
+-- whole one.
 pub record LeftByPut (t : TailValue) (contents : ℕ → List ℕ) (blocks : Blocks) (bytes : List ℕ) : Type 0 where
   pub up_to : HoldsUpTo t.log t.number contents bytes
   pub recovers : TellsTorn (IsThis (next_logged t (homes_in blocks)) (records_put blocks)) t.log t.number bytes
       → LogRecovers t.log contents bytes ⊎ LogRecovers t.log (contents_put contents blocks) bytes
 
--- the device is shorter than the volume
+-- The device is shorter than the volume.
 abbrev pub IsShort : {D : Type 0} → Ghosts D → LogPagerValue D → Type 0
 IsShort disk s = length (disk.seen s.device) < 4096 * s.store.tail.log.blocks
 
--- why a block isn't put
+-- Why putting a block fails.
 abbrev pub RefusesLogPut : {D : Type 0} → LogPagerValue D → ℕ → PagerFault → Type 0
 RefusesLogPut s home Full = (bytes_in s.staged home ≡ None)
     × (IsCommitSize s.store.tail.log.ring (length s.staged + 1) → ⊥)
@@ -54,13 +56,15 @@ RefusesLogPut s home (Store Range) = IsLogHome s.store.tail.log home → ⊥
 RefusesLogPut s home (Store OutOfMemory) = ⊤
 RefusesLogPut s home other = ⊥
 
--- why a home block isn't read, blocks aren't committed, a step isn't made, or the end isn't known: as by the store
+-- Why reading a home block, a commit, a step, or the search for the end of the log fails. The reasons are those of the
+-- store, a device that is too short, and, for a commit, too many blocks.
 abbrev pub RefusesPagerRead : {D : Type 0} → Ghosts D → LogPagerValue D → ℕ → PagerFault → Type 0
 RefusesPagerRead disk s home Full = ⊥
 RefusesPagerRead disk s home Short = IsShort disk s
 RefusesPagerRead disk s home (Store fault) = (bytes_in s.staged home ≡ None) × RefusesRead s.store home fault
 
--- how many device calls the read of a home block takes: none where its bytes were put, or the device is too short
+-- The number of device calls that reading a home block makes. There are none if the block is staged, or if the device
+-- is too short.
 abbrev pub pager_read_calls : {D : Type 0} → Ghosts D → LogPagerValue D → ℕ → ℕ
 pager_read_calls disk s home =
     if is_some (bytes_in s.staged home) || nat_lt (length (disk.seen s.device)) (4096 * s.store.tail.log.blocks) then 0

@@ -1,4 +1,4 @@
--- What reading a volume with a log finds.
+-- The result of reading a volume with a log.
 use Rattle.std.specs.Prelude.{ℕ, ◌+◌, List, take}
 use Rattle.page_entry.specs.declared.refusal.Refusal.{Refusal}
 use Rattle.page_entry.specs.declared.refusal.Refusal.TheVariants.{Device, OutOfMemory, NotAVolume, Damaged}
@@ -15,22 +15,22 @@ use Rattle.log_recovery.specs.Reading.{IsFoundLog, HoldsFound, chain_of}
 use Rattle.log_opening.specs.Volume.{RefusesVolume}
 use Rattle.log_reading.specs.declared.volume.LoggedVolume.{LoggedVolume}
 
--- the recovered contents of home blocks
+-- The recovered contents of home blocks.
 abbrev pub logged_contents : {Z : Type 0} → LoggedVolume Z → List ℕ → ℕ → List ℕ
 logged_contents found bytes =
     contents_of_log (log_of found.table) found.log.start.position (chain_of found.log.commits.items) bytes
 
--- the home block of a page of a file
+-- The home block of a page of a file.
 abbrev pub logged_home : LogSuperValue → ℕ → ℕ → ℕ
 logged_home v file page = first_log_file_home v.ring + total_pages (take file v.files) + page
 
--- the recovered files
+-- The recovered files.
 abbrev pub logged_files : {Z : Type 0} → LoggedVolume Z → List ℕ → List File
 logged_files found bytes =
     files_from (logged_contents found bytes) (first_log_file_home found.table.ring) found.table.files
     found.lengths.items
 
--- these bytes are a volume with this super block, log and lengths, and recover to its files
+-- These bytes are a volume with this super block, log and lengths. They recover to its files.
 pub record IsLoggedVolume {Z : Type 0} (bytes : List ℕ) (found : LoggedVolume Z) : Type 0 where
   pub super_block : IsLogSuper found.table (block_at bytes 0)
   pub log : HoldsFound (log_of found.table) found.log bytes
@@ -38,13 +38,13 @@ pub record IsLoggedVolume {Z : Type 0} (bytes : List ℕ) (found : LoggedVolume 
       (logged_contents found bytes (first_log_home found.table.ring))
   pub recovers : RecoversToLog bytes (logged_files found bytes)
 
--- what holds of each volume with a log that was read
+-- The facts that hold of each volume with a log that was read.
 pub record IsSoundLogged {Z : Type 0} (found : LoggedVolume Z) : Type 0 where
   pub log : IsFoundLog (log_of found.table) found.log
   pub lengths : AreLengths (table_of found.table) found.lengths.items
 
--- why a device with these bytes isn't read, as far as its bytes are the reason: as opening refuses it, but an epoch
--- needn't be left
+-- Why reading a device with these bytes fails: for the reasons of an opening, except that an epoch need not be left.
+-- Device and OutOfMemory may occur for any bytes.
 abbrev pub RefusesLogReading : List ℕ → Refusal → Type 0
 RefusesLogReading bytes NotAVolume = RefusesVolume bytes NotAVolume
 RefusesLogReading bytes Damaged = RefusesVolume bytes Damaged

@@ -1,2 +1,2 @@
--- What ties the private code of this crate to its definitions; no public contract names it.
+-- Definitions that connect the private code of this crate to its public definitions. No public contract names them.
 pub mod Leading

@@ -1,4 +1,4 @@
--- Blocks that a step or a commit reads, or of which it writes a part.
+-- Blocks that a step or a commit reads, or writes in part.
 use Rattle.std.specs.Prelude.{ℕ, ◌+◌, Option, Some, None}
 use Rattle.log_codec.specs.declared.sealing.Sealing.{Sealing}
 use Rattle.log_codec.specs.declared.sealing.Sealing.TheVariants.{ByByte, ByDigest}
@@ -10,13 +10,13 @@ use Rattle.log_store.specs.declared.stage.HomeStage.{HomeStage}
 use Rattle.log_store.specs.declared.stage.HomeStage.TheVariants.{Resting, Copying, Written, Sure}
 use Rattle.log_store.specs.Store.{StoreValue}
 
--- the block of the record that a step copies
+-- The block of the record that a step copies.
 abbrev pub copied_from : Option (ℕ × Newest) → Option ℕ
 copied_from None = None
 copied_from (Some copy) = Some copy.1.block
 
--- the block that a step reads, or of which it writes a part: that of the record that it copies; block 1, of which it
--- writes the first byte where it selects the start
+-- The block that a step reads or writes in part. It is the block of the record that the step copies. Or it is block 1,
+-- if the step selects a start and so writes its first byte.
 abbrev pub step_block_by : StoreValue → HomeStage → Option ℕ
 step_block_by s Resting = None
 step_block_by s Copying = copied_from (next_copy s.work s.entries)
@@ -26,12 +26,13 @@ step_block_by s Sure = Some 1
 abbrev pub step_block : StoreValue → Option ℕ
 step_block s = step_block_by s s.stage
 
--- The two blocks of the log of which a commit of this many blocks writes a part, at a position of the log: where a byte
--- seals, its first block, whose seal it writes last, and the block behind it, whose seal it closes.
+-- The two blocks of the log that a commit of this many blocks, at this position, writes in part. If a byte seals
+-- commits, they are the commit's first block and the block after it. The commit writes the first block's seal last, and
+-- closes the seal of the block after it.
 abbrev pub edges_by : Sealing → ℕ → ℕ → ℕ → Option (ℕ × ℕ)
 edges_by ByByte ring position blocks = Some (ring_block ring position, ring_block ring (position + blocks))
 edges_by (ByDigest key) ring position blocks = None
 
--- those of the next commit of this many records
+-- These two blocks for the next commit, with this many records.
 abbrev pub commit_edges : TailValue → ℕ → Option (ℕ × ℕ)
 commit_edges t records = edges_by t.log.sealing t.log.ring t.position (log_commit_blocks records)

@@ -1,4 +1,4 @@
--- What holds of every store.
+-- Facts that hold of every store.
 use Rattle.std.specs.Prelude.{⊤, ℕ, ◌<◌, ◌≤◌, Option, Some, None}
 use Rattle.log_codec.specs.Log.{LogValue, first_log_home}
 use Rattle.log_codec.specs.Chain.{IsLogHome}
@@ -10,22 +10,22 @@ use Rattle.log_store.specs.declared.stage.HomeStage.{HomeStage}
 use Rattle.log_store.specs.declared.stage.HomeStage.TheVariants.{Resting}
 use Rattle.log_store.specs.Store.{StoreValue}
 
--- the newest record of a block, if there is one, is a block of the log, and the block is a home block
+-- If the block has a newest record, the record is in a block of the log, and the block is a home block.
 abbrev pub IsNoted : LogValue → ℕ → Option Newest → Type 0
 IsNoted g b None = ⊤
 IsNoted g b (Some newest) = (4 ≤ newest.block) × (newest.block < first_log_home g.ring) × IsLogHome g b
 
--- these are oldest commits of the log
+-- These are oldest commits of the log.
 abbrev pub IsOfLog : TailValue → OldCommits → Type 0
 IsOfLog t oldest = (oldest.blocks ≤ t.used) × (t.start.number ≤ oldest.below) × (oldest.below ≤ t.number)
 
--- those that are being written home are, if there are any
+-- If commits are being written home, they are oldest commits of the log.
 abbrev pub AreOfLog : TailValue → HomeStage → OldCommits → Type 0
 AreOfLog t Resting oldest = ⊤
 AreOfLog t stage oldest = IsOfLog t oldest
 
--- Records lie in the log, and the number of its next commit isn't below that of its first one. No block or commit is
--- out of range, so that steps and reads aren't refused for that.
+-- Records lie in the log. The number of its next commit is not below that of its first. No block or commit is out of
+-- range, so that steps and reads are not refused for that.
 pub record IsStore (s : StoreValue) : Type 0 where
   pub noted : (b : ℕ) → IsNoted s.tail.log b (find_in s.entries b)
   pub started : s.tail.start.number ≤ s.tail.number

@@ -1,4 +1,4 @@
--- A step by which commits are written home, made or refused.
+-- A step that writes commits home, made or refused.
 use Rattle.std.specs.Prelude.{◌≡◌, ◌≢◌, ◌↔◌, ℕ, true, List, length, Result, is_ok, IfOk, IfErr, OnOk}
 use Rattle.device.specs.declared.device.Device.{Ghosts}
 use Rattle.device.specs.Device.{LeavesOnly}
@@ -11,7 +11,7 @@ use Rattle.log_store.specs.declared.fault.StoreFault.{StoreFault}
 use Rattle.log_store.specs.declared.fault.StoreFault.TheVariants.{Move, OutOfMemory}
 use Rattle.log_store.specs.Store.{StoreValue, IsStoreOver, StepsBy, MayStepBy, RefusesStepBy, step_works}
 
--- The step of a store at a stage. A step that is refused changes nothing. If a device call fails, the tail takes no
+-- The step of a store at this stage. A refused step changes nothing. If a device call fails, the tail accepts no
 -- further call.
 pub record MakesStoreStep {D : Type 0} (disk : Ghosts D) (s : StoreValue) (stage : HomeStage)
     (result : Result Progress StoreFault) (after : StoreValue) (old new : D) : Type 0 where
@@ -25,7 +25,8 @@ pub record MakesStoreStep {D : Type 0} (disk : Ghosts D) (s : StoreValue) (stage
   pub len : length (disk.seen new) ≡ length (disk.seen old)
   pub honest : disk.is_honest new ↔ disk.is_honest old
 
--- Where the store is over the device, a crash within the step leaves the commits so far, and the store stays over it.
+-- If the store agrees with the device, a crash within the step leaves all commits made before. After a successful step
+-- the store agrees with the device again, with the same contents.
 pub record StaysOver {D : Type 0} (disk : Ghosts D) (s : StoreValue) (stage : HomeStage)
     (result : Result Progress StoreFault) (after : StoreValue) (old new : D) : Type 0 where
   pub leaves : (contents : ℕ → List ℕ) → disk.is_honest old → IsStoreOver disk s contents old

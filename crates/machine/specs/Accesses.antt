@@ -1,4 +1,4 @@
--- What each act is to the memory that it names by an address.
+-- The kind of access that each act makes to the memory at the address it names.
 use Rattle.machine.specs.declared.act.Access.{Access}
 use Rattle.machine.specs.declared.act.Access.TheVariants as accesses
 use Rattle.machine.specs.declared.act.Act.{Act}

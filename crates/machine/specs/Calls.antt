@@ -1,5 +1,5 @@
--- How many device calls a step makes, and how many of them fail: a fault that is served makes one read where the page
--- isn't in memory, a step of a write-out makes the calls of its work, and no other act makes any.
+-- The number of device calls that a step makes, and how many of them fail. A served fault makes one read if the page is
+-- not in memory. A step of a write-out makes the calls of its work. No other act makes any.
 use Rattle.std.specs.Prelude.{ℕ, ◌≡◌, ◌+◌, ◌-◌, ◌^◌, ◌<◌, ◌&&◌, Bool, true, false, if◌then◌else◌}
 use Rattle.page_entry.specs.declared.refusal.Refusal.TheVariants as refusals
 use Rattle.device.specs.Count.{raised}
@@ -12,21 +12,21 @@ use Rattle.machine.specs.State.{State}
 use Rattle.machine.specs.Refusals.{reads_page}
 use Rattle.machine.specs.Steps.{step_work}
 
--- whether a device call failed
+-- Whether a device call failed.
 abbrev pub has_failed : Reply → Bool
 has_failed (replies.Refused refusals.Device) = true
 has_failed reply = false
 
--- how many calls were made before this work and after it, where one of them failed, or none did; of counts that come to
--- 2^64 - 1, where they stay, nothing is said
+-- The numbers of calls before and after this work, in which one call failed or none did. A count stays at 2^64 - 1. If
+-- it is near that number, nothing is required.
 abbrev pub Counts : Work → Bool → ℕ → ℕ → Type 0
 Counts work true calls calls' = calls < 2 ^ 64 - 2 → HasFailed work calls calls'
 Counts Nothing false calls calls' = calls' ≡ calls
 Counts work false calls calls' = calls < 2 ^ 64 - 2 → calls' ≡ calls + calls_of work
 
--- The numbers of calls and of failed calls before a step of processor p and after it: a fault that is served makes one
--- read where the page isn't in memory, a step of the write-outs makes the calls of its work, of which the last alone
--- may fail, and no other act makes any.
+-- The numbers of calls and of failed calls, before and after a step of processor `p`. A served fault makes one read if
+-- the page is not in memory. A step of the write-outs makes the calls of its work, and only the last of them may fail.
+-- No other act makes any.
 abbrev pub CallsOf : State → ℕ → Act → Reply → ℕ → ℕ → ℕ → ℕ → Type 0
 CallsOf s p (acts.Fix va write) reply calls calls' faults faults' =
     (calls' ≡ (if reads_page s p va write then raised calls else calls))

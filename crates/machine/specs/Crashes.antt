@@ -1,4 +1,4 @@
--- Whole runs of a machine over a device, with what a crash leaves at each moment.
+-- Whole runs of a machine over a device, and what a crash leaves at each moment.
 use Rattle.std.specs.Prelude.{ℕ, ◌≡◌, List, [], ◌∷◌}
 use Rattle.device.specs.Device.{Only, LeavesOnly}
 use Rattle.device.specs.declared.device.Device.{Ghosts}
@@ -14,8 +14,8 @@ use Rattle.history.specs.Reading.{ReadsBack}
 use Rattle.machine.specs.Fresh.{IsFresh}
 use Rattle.machine.specs.Runs.{StepTaken}
 
--- A run may begin: the machine is as boot leaves it over a volume whose gates are closed, with these files and the
--- lengths that the volume has; its device is honest, and a crash leaves what a read gives.
+-- A run may begin here. The machine is as boot leaves it, over a volume with closed gates, with these files and their
+-- lengths. Its device is honest, and a crash leaves the bytes that a read returns.
 pub record Begins {D : Type 0} (disk : Ghosts D) (files : List File) (start : Whole D) : Type 0 where
   pub fresh : IsFresh start.state
   pub volume : IsVolume start.state.table [] (disk.seen start.device)
@@ -25,9 +25,9 @@ pub record Begins {D : Type 0} (disk : Ghosts D) (files : List File) (start : Wh
   pub honest : disk.is_honest start.device
   pub synced : Only (disk.may_leave start.device) (disk.seen start.device)
 
--- One step of a run over an honest device, by what was observed before it: it was made. A crash at any moment within it
--- leaves what reads back as the files after a durable prefix of the history before it, and a crash after it what reads
--- back so of the history with it.
+-- One step of a run over an honest device, given what was observed before it. The step was made. A crash within it
+-- leaves bytes that recover to the files after a durable prefix of the history before the step. For a crash after it,
+-- the history includes the step.
 pub record StepIsSafe {D : Type 0} (disk : Ghosts D) (files : List File) (observed : Observed)
     (old : Whole D) (step : Step)
     (reply : Reply) (new : Whole D) : Type 0 where
@@ -36,8 +36,8 @@ pub record StepIsSafe {D : Type 0} (disk : Ghosts D) (files : List File) (observ
   pub within : LeavesOnly disk.moment disk.left_since old.device new.device (ReadsBack files observed.history)
   pub after : (c : List ℕ) → disk.may_leave new.device c → ReadsBack files (observe observed step reply).history c
 
--- a run from old to new through a machine between any two steps, of each of which this is so, by what was observed
--- before it
+-- A run from `old` to `new`, with a machine between any two steps. `Safe` holds of each step, given what was observed
+-- before it.
 abbrev pub Throughout : {D : Type 0} → (Observed → Whole D → Step → Reply → Whole D → Type 0) → Observed → Whole D
     → List Step → List Reply → Whole D → Type 0
 Throughout Safe observed old [] [] new = new ≡ old

@@ -1,6 +1,5 @@
--- What a step makes of the device itself, honest or not. A step of the write-outs does its work on it, and a fault
--- whose page isn't in memory makes one read of it. Any other act, and any refusal before a device call, leaves it
--- alone.
+-- The effect of a step on the device itself, honest or not. A step of the write-outs does its work on it. A fault reads
+-- it once if the page is not in memory. Any other act, and any refusal before a device call, leaves it unchanged.
 use Rattle.std.specs.Prelude.{ℕ, ◌≡◌, Bool, true, false}
 use Rattle.device.specs.declared.device.Device.{Ghosts}
 use Rattle.fault.specs.Fixing.{ReadsOnce}
@@ -13,13 +12,14 @@ use Rattle.machine.specs.Refusals.{reads_page}
 use Rattle.machine.specs.Steps.{step_work}
 use Rattle.machine.specs.Calls.{has_failed}
 
--- a fault was served or refused, and its page had to be read for it, or hadn't
+-- The device before and after a fault was served or refused. If the page had to be read (`reads`), there was one read,
+-- and otherwise none.
 pub record DeviceAfterFix {D : Type 0} (disk : Ghosts D) (reads : Bool) (reply : Reply) (old new : D) : Type 0 where
   pub untouched : reads ≡ false → new ≡ old
   pub read : reads ≡ true → ReadsOnce disk.seen disk.may_leave disk.is_honest disk.moment disk.left_since
       disk.calls_made disk.faults_met (has_failed reply) old new
 
--- the device before a step of processor p and after it
+-- The device before and after a step of processor `p`.
 abbrev pub DeviceAfter : {D : Type 0} → Ghosts D → State → ℕ → Act → Reply → D → D → Type 0
 DeviceAfter disk s p (acts.Fix va write) reply old new = DeviceAfterFix disk (reads_page s p va write) reply old new
 DeviceAfter disk s p acts.Flush reply old new = step_work s acts.Flush reply ≡ Nothing → new ≡ old

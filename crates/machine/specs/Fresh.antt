@@ -1,4 +1,4 @@
--- A machine as boot leaves it, and the shapes that it can have.
+-- A machine as boot leaves it, and the possible shapes of a machine.
 use Rattle.std.specs.Prelude.{ℕ, ◌≡◌, ◌≤◌, false, List}
 use Rattle.frames.specs.Frames.{all_free}
 use Rattle.volume_codec.specs.Layout.{max_frames}
@@ -10,18 +10,18 @@ use Rattle.journal.specs.WriteOuts.{none_of}
 use Rattle.machine.specs.declared.act.Shape.{Shape}
 use Rattle.machine.specs.State.{State}
 
--- the shapes that a machine can have over a volume
+-- The shapes that a machine over a volume can have.
 pub record IsShape (table : SuperValue) (shape : Shape) : Type 0 where
   pub some_processors : 1 ≤ shape.cpus
   pub few_processors : shape.cpus ≤ 16
   pub some_entries : 1 ≤ shape.tlb
   pub few_entries : shape.tlb ≤ 64
   pub some_frames : 1 ≤ shape.frames
-  -- a batch has a record slot for a page of each frame
+  -- A batch has a record slot for a page of each frame.
   pub few_frames : shape.frames ≤ max_frames table.layout table.slots
   pub few_copies : shape.copies ≤ 64
 
--- each processor is active in space 0, which maps nothing; no page is in memory; nothing was begun
+-- Each processor is active in space 0, which maps nothing. No page is in memory. Nothing has begun.
 abbrev pub fresh : SuperValue → List ℕ → Shape → State
 fresh table lengths shape = record {
   table = table;
@@ -37,7 +37,7 @@ fresh table lengths shape = record {
   resized = false;
 }
 
--- the machine is as boot leaves it, of some shape that it can have over its volume
+-- The machine is as boot leaves it, with a shape that is possible over its volume.
 pub record IsFresh (s : State) : Type 0 where
   pub shape : Shape
   pub fits : IsShape s.table shape

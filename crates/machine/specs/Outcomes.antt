@@ -1,4 +1,4 @@
--- What each reply says of stores and of marks. Each is named, so that one which is added asks for its line.
+-- What each reply means for stores and marks. Each reply is listed, so that a new reply needs its own line.
 use Rattle.machine.specs.declared.act.Outcome.{Outcome}
 use Rattle.machine.specs.declared.act.Outcome.TheVariants as outcomes
 use Rattle.machine.specs.declared.act.Reply.{Reply}
@@ -7,8 +7,8 @@ use Rattle.machine.specs.declared.act.Reply.TheVariants.{Fixed, Space, Destroyed
 use Rattle.machine.specs.declared.act.Reply.TheVariants.{Protected, Resized, Reclaimed, Kept, Marked, Acked}
 use Rattle.machine.specs.declared.act.Reply.TheVariants.{Resumed, Going, Committed, Done, Nothing, Refused}
 
--- a store, and a length that was set, is in no mark yet; a mark that was made, or is durable, has its number, and a
--- refusal its reason
+-- A store, or a change of a length, is not yet in a mark. A mark that was made, or that is durable, has its number. A
+-- refusal has its reason.
 abbrev pub outcome_of : Reply → Outcome
 outcome_of (Bytes bytes) = outcomes.Other
 outcome_of Stored = outcomes.Unmarked

@@ -1,4 +1,4 @@
--- Steps of a machine over any device, one after the other.
+-- Sequences of steps of a machine over any device.
 use Rattle.std.specs.Prelude.{ℕ, ◌≡◌, ◌↔◌, List, [], ◌∷◌, length}
 use Rattle.device.specs.declared.device.Device.{Ghosts}
 use Rattle.machine.specs.declared.act.Reply.{Reply}
@@ -9,8 +9,9 @@ use Rattle.machine.specs.Calls.{CallsOf}
 use Rattle.machine.specs.Devices.{DeviceAfter}
 use Rattle.machine.specs.Steps.{StepMade}
 
--- One step of a machine over any device, honest or not: there are bytes for which the rules hold, and of an honest
--- device they are its own; the device after it; its device calls, and those that failed.
+-- One step of a machine over any device, honest or not. The rules hold for some bytes. On an honest device they hold
+-- for the device's own bytes. The record also describes the device after the step, its device calls, and the failed
+-- ones.
 pub record StepTaken {D : Type 0} (disk : Ghosts D) (old : Whole D) (step : Step) (reply : Reply)
     (new : Whole D) : Type 0 where
   pub answered : (d d' : List ℕ) × Rules old.state d step reply new.state d'
@@ -21,7 +22,7 @@ pub record StepTaken {D : Type 0} (disk : Ghosts D) (old : Whole D) (step : Step
   pub honest : disk.is_honest new.device ↔ disk.is_honest old.device
   pub len : length (disk.seen new.device) ≡ length (disk.seen old.device)
 
--- these replies to these steps, with a machine between any two of them
+-- These steps lead from `old` to `new`, with these replies and a machine between any two steps.
 abbrev pub StepsTaken : {D : Type 0} → Ghosts D → Whole D → List Step → List Reply → Whole D → Type 0
 StepsTaken disk old [] [] new = new ≡ old
 StepsTaken {D} disk old (step ∷ steps) (reply ∷ replies) new =

@@ -1,4 +1,4 @@
--- One step of a machine over an honest device, and the laws of one step.
+-- One step of a machine over an honest device, and the observed state at the start of a run.
 use Rattle.std.specs.Prelude.{ℕ, ◌≡◌, ◌≢◌, ◌+◌, ◌-◌, ◌^◌, ◌<◌, List, length}
 use Rattle.page_entry.specs.declared.refusal.Refusal.TheVariants as refusals
 use Rattle.device.specs.Device.{Only, LeavesOnly}
@@ -15,8 +15,7 @@ use Rattle.machine.specs.Rules.{Rules, work_asked}
 use Rattle.machine.specs.Observed.{Observed}
 use Rattle.machine.specs.Laws.{observed_at_start}
 
--- what a step that is answered so writes or makes durable on the device: the work of a write-out's step, and else
--- nothing
+-- What a step with this reply writes or makes durable on the device: the work of a write-out's step, or else nothing.
 abbrev pub step_work : State → Act → Reply → Work
 step_work s acts.Flush replies.Going = work_asked s
 step_work s acts.Flush (replies.Committed number) = work_asked s
@@ -24,8 +23,8 @@ step_work s acts.Flush (replies.Done number) = work_asked s
 step_work s acts.Flush (replies.Refused refusals.Device) = work_asked s
 step_work s act reply = Nothing
 
--- One step of a machine over an honest device: the rules, and what a crash may leave after it and within it. Where of a
--- block that was to be copied the read alone was made, and failed, nothing was written.
+-- One step of a machine over an honest device: the rules, and what a crash may leave after it and within it. If copying
+-- a block failed at its read, nothing was written.
 pub record StepMade {D : Type 0} (disk : Ghosts D) (old : Whole D) (step : Step) (reply : Reply) (new : Whole D)
     : Type 0 where
   pub answered : Rules old.state (disk.seen old.device) step reply new.state (disk.seen new.device)
@@ -39,6 +38,6 @@ pub record StepMade {D : Type 0} (disk : Ghosts D) (old : Whole D) (step : Step)
       → step_work old.state step.act reply ≡ CopyBlock from to → disk.calls_made old.device < 2 ^ 64 - 2
       → disk.calls_made new.device ≡ disk.calls_made old.device + 1 → disk.seen new.device ≡ disk.seen old.device
 
--- what is observed at the start of a run of this machine with these files
+-- The observed state at the start of a run of this machine with these files.
 abbrev pub observed_first : List File → State → Observed
 observed_first files start = observed_at_start files (length start.hardware.shootdown.processors)

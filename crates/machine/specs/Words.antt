@@ -1,4 +1,4 @@
--- What each reply is printed as.
+-- The text as which each reply is printed.
 use Rattle.std.specs.Prelude.{ℕ, List, ◌∷◌, ◌++◌, codes}
 use Rattle.std.specs.List.{flat_map}
 use Rattle.std.specs.Fmt.{decimal}
@@ -9,12 +9,12 @@ use Rattle.machine.specs.declared.act.Reply.TheVariants.{Fixed, Space, Destroyed
 use Rattle.machine.specs.declared.act.Reply.TheVariants.{Protected, Resized, Reclaimed, Kept, Marked, Acked}
 use Rattle.machine.specs.declared.act.Reply.TheVariants.{Resumed, Going, Committed, Done, Nothing, Refused}
 
--- numbers in decimal digits, each after one space
+-- The numbers in decimal digits, each after one space.
 abbrev pub numbers_text : List ℕ → List ℕ
 numbers_text numbers = flat_map (λ n. 32 ∷ decimal n) numbers
 
--- the word in lower case; after it its bytes or its number in decimal digits, each after one space; a refusal as its
--- own words
+-- The word in lower case, followed by its bytes or its number in decimal digits, each after one space. A refusal has
+-- its own words.
 abbrev pub reply_text : Reply → List ℕ
 reply_text (Bytes bytes) = codes "bytes" ++ numbers_text bytes
 reply_text Stored = codes "stored"

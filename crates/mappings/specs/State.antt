@@ -1,4 +1,4 @@
--- What contracts see of the mappings of an address space.
+-- The state of the mappings of an address space, as contracts name it.
 use Rattle.std.specs.Prelude.{◌≡◌, ℕ, Bool, true, false, refl}
 use Rattle.std.specs.Coded.{Coded, code_by, coded×, coded_ℕ, coded_bool}
 use Rattle.std.specs.FinMap as fin_map
@@ -7,12 +7,12 @@ use Rattle.mappings.specs.declared.place.Rights.{Rights}
 use Rattle.mappings.specs.declared.place.Rights.TheVariants.{Read, ReadWrite}
 use Rattle.mappings.specs.Places.{Places, may_write}
 
--- the mapped pages, and for how many further mappings room is reserved
+-- The mapped pages, and the number of further mappings for which memory is reserved.
 pub record MappingsState : Type 0 where
   pub places : Places
   pub spare : ℕ
 
--- rights by whether they allow writing
+-- the rights that allow writing, or those that don't
 abbrev pub rights_of : Bool → Rights
 rights_of false = Read
 rights_of true = ReadWrite
@@ -21,7 +21,7 @@ pub rights_of-may_write : (rights : Rights) → rights_of (may_write rights) ≡
 rights_of-may_write Read = refl
 rights_of-may_write ReadWrite = refl
 
--- the codes by which a proof tells values apart
+-- the codes by which a proof distinguishes values
 abbrev pub rights_code : Coded Rights
 rights_code = code_by Bool coded_bool may_write rights_of rights_of-may_write
 

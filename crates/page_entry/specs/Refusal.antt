@@ -1,4 +1,4 @@
--- What each refusal is printed as.
+-- The printed words of each refusal.
 use Rattle.std.specs.Prelude.{ℕ, List, ◌++◌, codes}
 use Rattle.std.specs.Fmt.{decimal}
 use Rattle.page_entry.specs.declared.refusal.Refusal.{Refusal}
@@ -8,7 +8,7 @@ use Rattle.page_entry.specs.declared.refusal.Refusal.TheVariants.{Broken, Einval
 use Rattle.page_entry.specs.declared.refusal.Refusal.TheVariants.{NoFile, Busy, NotResident, TraceFull}
 use Rattle.page_entry.specs.declared.refusal.Refusal.TheVariants.{OutOfMemory, NotAVolume, Damaged, BadShape}
 
--- the name in lower case without spaces, and after `notyet` and `fault` one space and the number in decimal digits
+-- The name in lower case without spaces. After `notyet` and `fault`, one space and the number in decimal digits.
 abbrev pub words_of : Refusal → List ℕ
 words_of Stalled = codes "stalled"
 words_of Locked = codes "locked"

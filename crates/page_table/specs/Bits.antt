@@ -7,19 +7,19 @@ use Rattle.page_entry.specs.Entry.{has_bit}
 abbrev pub is_set : List ℕ → ℕ → Bool
 is_set mask i = has_bit (slice_index_or mask (i / 64) 0) (i % 64)
 
--- the first bit from `from` on and below `end` that is set
+-- `place` is the first bit from `from` up to `end` that is set.
 pub record IsSet (mask : List ℕ) (from end place : ℕ) : Type 0 where
   pub low : from ≤ place
   pub high : place < end
   pub here : is_set mask place ≡ true
   pub before : (i : ℕ) → from ≤ i → i < place → is_set mask i ≡ false
 
--- the first bit from `from` on and below `end` that is set, if there is one
+-- `Some`: the first bit from `from` up to `end` that is set. `None`: no bit there is set.
 abbrev pub IsFirstSet : List ℕ → ℕ → ℕ → Option ℕ → Type 0
 IsFirstSet mask from end None = (i : ℕ) → from ≤ i → i < end → is_set mask i ≡ false
 IsFirstSet mask from end (Some place) = IsSet mask from end place
 
--- one bit of a mask is set or cleared
+-- Bit `place` is set or cleared. All other bits are unchanged.
 pub record Marks (place : ℕ) (set : Bool) (old new : List ℕ) : Type 0 where
   pub size : length new ≡ length old
   pub bits : (i : ℕ) → is_set new i ≡ (if i == place then set else is_set old i)

@@ -19,22 +19,22 @@ use Rattle.pager.specs.State.{PagerState, newly_opened, file_length}
 use Rattle.pager.specs.Calls.{put_refusal, commit_refusal, after_put, after_commit, after_step, next_bytes}
 use Rattle.pager.specs.Calls.{set_length_refusal, last_page, after_length}
 
--- what a commit of these blocks adds to the history: of nothing it is durable at once
+-- the events of a commit of these blocks; a commit of no blocks is acknowledged at once
 abbrev pub marked_with : ℕ → Blocks → List Event
 marked_with number [] = Mark number ∷ Acknowledge number ∷ []
 marked_with number (block ∷ blocks) = Mark number ∷ []
 
--- what a step adds that answers so
+-- the events of a step with this answer
 abbrev pub acknowledged_by : Flushed → List Event
 acknowledged_by (Committed mark) = Acknowledge mark ∷ []
 acknowledged_by answer = []
 
--- a page of these bytes is put: what `put` ensures
+-- A page with these bytes is put, as `put` ensures.
 pub record IsPut {D : Type 0} (s : PagerState D) (owner : FilePage) (bytes : List ℕ) : Type 0 where
   pub admitted : put_refusal s owner ≡ None
   pub a_page : length bytes ≡ 4096
 
--- A step of a pager over an honest device, which answers so and leaves the device so: what `step` ensures.
+-- A step of a pager over an honest device returns `answer` and leaves the device `after`, as `step` ensures.
 pub record IsPagerStep {D : Type 0} (disk : Ghosts D) (s : PagerState D) (answer : Flushed) (after : D) : Type 0 where
   pub whole : s.write_outs.broken ≡ false
   pub some : s.write_outs.batches ≢ []
@@ -43,18 +43,18 @@ pub record IsPagerStep {D : Type 0} (disk : Ghosts D) (s : PagerState D) (answer
   pub honest : disk.is_honest s.device
   pub did : Did disk s.device (next_work s.write_outs (next_bytes s)) (has_done answer) after
 
--- a commit of what was put: what `commit` ensures
+-- A commit of the put blocks begins, as `commit` ensures.
 pub record IsBegunCommit {D : Type 0} (s : PagerState D) : Type 0 where
   pub admitted : commit_refusal s ≡ None
   pub may : s.staged ≢ [] → MayBegin s.write_outs (s.marks + 1) (homes_in s.staged)
 
--- a file's length becomes another, over an honest device that this leaves so: what `set_length` ensures
+-- A file's length changes to `to`. The device was only read, and is `after` then, as `set_length` ensures.
 pub record IsResize {D : Type 0} (disk : Ghosts D) (s : PagerState D) (file to : ℕ) (after : D) : Type 0 where
   pub admitted : set_length_refusal s file to ≡ None
   pub other : to ≢ file_length s.lengths file
   pub read : IsOnlyRead disk s.device after
 
--- Calls led from this state of a pager to another one, and added these events to the history.
+-- Calls led from the state `start` of a pager to another state, and added these events to the history.
 pub data HasGone {D : Type 0} (disk : Ghosts D) (start : PagerState D) : List Event → PagerState D → Type 0 where
   Stays : HasGone disk start [] start
   ThenPut : (events : List Event) (s : PagerState D) (owner : FilePage) (bytes : List ℕ) → IsPut s owner bytes
@@ -72,7 +72,7 @@ pub data HasGone {D : Type 0} (disk : Ghosts D) (start : PagerState D) : List Ev
       → HasGone disk start (events ++ SetLength file (file_length s.lengths file) to ∷ [])
       (after_length s file to (last_page s (disk.seen s.device) file) after)
 
--- A pager to which calls have led, from a volume at rest on, which had these files; and the history of the calls.
+-- Calls with this history led to this state of a pager. They began with the opening of a volume at rest with `files`.
 pub record HasCome {D : Type 0} (disk : Ghosts D) (files : List File) (history : List Event) (s : PagerState D)
     : Type 0 where
   pub volume : VolumeState D

@@ -1,4 +1,4 @@
--- What contracts see of a pager.
+-- The state of a pager, as contracts name it.
 use Rattle.std.specs.Prelude.{ℕ, ◌+◌, ◌-◌, ◌*◌, ◌<◌, ◌≤◌, if◌then◌else◌, Bool, List, [], length, take, slice_index_or}
 use Rattle.std.specs.Prelude.{is_some, is_none, ◌&&◌, nat_le, Option, Some, None, unwrap_or}
 use Rattle.std.specs.Option.{option_or}
@@ -10,9 +10,10 @@ use Rattle.journal.specs.WriteOuts.{WriteOutsValue, none_of}
 use Rattle.recovery.specs.Volume.{VolumeState}
 use Rattle.kept_blocks.specs.Blocks.{Blocks, bytes_in, newest_in}
 
--- A pager and its device: the volume's table of files, and the length of each in bytes; the most pages of files that a
--- commit takes; the blocks that were put since the last commit began; the write-outs that aren't done, and the blocks
--- of each, the oldest first; and how many commits began since the opening.
+-- A pager with its device. `table` lists the volume's files, and `lengths` are their lengths in bytes. `most` is the
+-- largest number of pages of files in a commit. `staged` are the blocks that were put since the last commit began.
+-- `write_outs` are the write-outs that aren't done, and `records` the blocks of each, the oldest first. `marks` is the
+-- number of commits that began since the opening.
 pub record PagerState (D : Type 0) : Type 0 where
   pub table : SuperValue
   pub lengths : List ℕ
@@ -23,7 +24,7 @@ pub record PagerState (D : Type 0) : Type 0 where
   pub marks : ℕ
   pub device : D
 
--- as it is over a volume that was just opened
+-- the pager of a volume that was just opened
 abbrev pub newly_opened : {D : Type 0} → VolumeState D → ℕ → PagerState D
 newly_opened volume most = record {
   table = volume.table;
@@ -36,7 +37,7 @@ newly_opened volume most = record {
   device = volume.device;
 }
 
--- the table and the lengths of a pager, with its device
+-- the table, lengths and device of a pager, as a volume
 abbrev pub volume_in : {D : Type 0} → PagerState D → VolumeState D
 volume_in s = record { table = s.table; lengths = s.lengths; device = s.device }
 
@@ -44,31 +45,31 @@ volume_in s = record { table = s.table; lengths = s.lengths; device = s.device }
 abbrev pub file_length : List ℕ → ℕ → ℕ
 file_length lengths file = slice_index_or lengths file 0
 
--- the home block is of no page past its file's end, of files of these lengths
+-- The home block is not that of a page past its file's end, if the files have these lengths.
 abbrev pub IsBeforeEnd : SuperValue → List ℕ → ℕ → Type 0
 IsBeforeEnd table lengths home = (file : ℕ)
     → first_home_of table file + pages_of (file_length lengths file) ≤ home → home < first_home_of table (file + 1) → ⊥
 
--- a page up to its file's end, then zeros, of files of these lengths
+-- the bytes of a page up to its file's end, then zeros, if the files have these lengths
 abbrev pub up_to_end : List ℕ → FilePage → List ℕ → List ℕ
 up_to_end lengths owner bytes = padded 4096 (take (file_length lengths owner.file - 4096 * owner.page) bytes)
 
--- the bytes of a home block that are kept in memory: the latest that were put, else those of the newest commit that has
--- it and isn't done
+-- The bytes of a home block that are kept in memory: the latest bytes that were put, or else those of the newest
+-- unfinished commit that contains the block.
 abbrev pub kept_bytes : Blocks → List Blocks → ℕ → Option (List ℕ)
 kept_bytes staged records home = option_or (bytes_in staged home) (newest_in records home)
 
--- the bytes that a home block has for callers, where a read of the disk gives these
+-- the bytes that callers read from a home block, if a read of the disk returns the bytes `disk`
 abbrev pub current_in : Blocks → List Blocks → List ℕ → ℕ → List ℕ
 current_in staged records disk home = unwrap_or (kept_bytes staged records home) (block_at disk home)
 
--- how many blocks of the next commit are reserved for the lengths: one, where the layout has a block for them that
--- isn't put yet
+-- The number of blocks of the next commit that are reserved for the lengths. It is 1 if the layout has a block for them
+-- that isn't put yet, otherwise 0.
 abbrev pub reserved : SuperValue → Blocks → ℕ
 reserved table staged =
     if is_some (bytes_in staged (first_home table.layout table.slots)) then 0 else lengths_blocks table.layout
 
--- the next commit has no room for this home block
+-- whether the next commit has no room for this home block
 abbrev pub is_full : SuperValue → ℕ → Blocks → ℕ → Bool
 is_full table most staged home =
     is_none (bytes_in staged home)

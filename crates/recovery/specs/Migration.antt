@@ -1,4 +1,4 @@
--- What migrating a volume makes of another device: a volume of another layout with the same files.
+-- How migrating a volume changes another device: it makes a volume of another layout there, with the same files.
 use Rattle.std.specs.Prelude.{◌≡◌, ◌⊎◌, ℕ, ◌+◌, ◌*◌, ◌<◌, ◌≤◌, List, [], ◌∷◌, length, take, drop, slice_index}
 use Rattle.std.specs.Prelude.{Result, Ok}
 use Rattle.device.specs.Device.{Torn, TornFrom, LeavesOnly, Only}
@@ -14,24 +14,25 @@ use Rattle.recovery.specs.Format.{HasShape}
 use Rattle.recovery.specs.Opening.{IsUnwritten}
 use Rattle.recovery.specs.Volume.{VolumeState, files_of}
 
--- files of these names, lengths and capacities, as they are asked for
+-- requests for files with these names, lengths and capacities
 abbrev pub asked_again : List TableFile → List ℕ → List AskedFile
 asked_again (f ∷ fs) (n ∷ lengths) =
     record { name = f.name; length = n; capacity = f.capacity } ∷ asked_again fs lengths
 asked_again fs lengths = []
 
--- the files of a volume, as they are asked for
+-- requests for the files of a volume
 abbrev pub asked_of : {D : Type 0} → VolumeState D → List AskedFile
 asked_of volume = asked_again volume.table.files volume.lengths
 
--- in the home blocks of each file the bytes past its length are 0
+-- In the home blocks of each file, the bytes past its length are 0.
 abbrev pub AreZeroPast : SuperValue → List ℕ → List ℕ → Type 0
 AreZeroPast table lengths bytes = (file i : ℕ) → file < length table.files
     → 4096 * first_home_of table file + slice_index lengths file ≤ i → i < 4096 * first_home_of table (file + 1)
     → slice_index bytes i ≡ 0
 
--- all of a volume but its block 0, as migrating this one makes it: each gate byte 0, the lengths in their block, and,
--- where the device of this one is honest, the same files with zeros past their lengths
+-- All blocks of a volume except block 0 are as migrating `volume` makes them. Each gate byte is 0. The lengths block,
+-- if there is one, contains the lengths. If the device of `volume` is honest, the files are the same, with zeros past
+-- their lengths.
 pub record IsFilled {D : Type 0} (disk : Ghosts D) (volume : VolumeState D) (table : SuperValue) (bytes : List ℕ)
     : Type 0 where
   pub gates : (j : ℕ) → j < journals_of table.layout → slice_index bytes (4096 * gate_block table.slots j) ≡ 0
@@ -40,9 +41,9 @@ pub record IsFilled {D : Type 0} (disk : Ghosts D) (volume : VolumeState D) (tab
   pub files : disk.is_honest volume.device → files_of table bytes ≡ files_of volume.table (disk.seen volume.device)
   pub tails : disk.is_honest volume.device → AreZeroPast table volume.lengths bytes
 
--- What a crash leaves of a volume that is being made from this one, on a device that might have been left as one of
--- these lists: such a list, with other bytes in the volume's blocks alone. Block 0 is as it was, or else all the rest
--- is filled.
+-- A crash may leave `c` while `volume` is migrated to a device that a crash before might have left as one of `lists`.
+-- `c` is one of `lists`, with other bytes only in the new volume's blocks. Block 0 is as before, or the rest of the new
+-- volume is filled.
 pub record IsPartlyMigrated {D : Type 0} (disk : Ghosts D) (volume : VolumeState D) (table : SuperValue)
     (lists : List ℕ → Type 0) (c : List ℕ) : Type 0 where
   pub before : List ℕ
@@ -50,22 +51,22 @@ pub record IsPartlyMigrated {D : Type 0} (disk : Ghosts D) (volume : VolumeState
   pub within : Torn 0 (4096 * block_count table) before c
   pub first : (block_at c 0 ≡ block_at before 0) ⊎ IsFilled disk volume table c
 
--- what a crash leaves of migrating: what it might have left before it, or a volume that is being made
+-- A crash during a migration may leave `c`: bytes that it might have left before, or a partly migrated volume.
 abbrev pub LeftByMigration : {D E : Type 0} → Ghosts D → Ghosts E → ℕ → ℕ → VolumeState D → E → List ℕ → Type 0
 LeftByMigration disk other layout slots volume before c = other.may_leave before c
     ⊎ ((table : SuperValue) × HasShape layout (asked_of volume) slots (length (other.seen before)) table
     × IsPartlyMigrated disk volume table (other.may_leave before) c)
 
--- Two devices are as long and as honest as before. Where the result is Ok no call of either failed; else it has its
--- cause at one of them, and no call of the other failed.
+-- Both devices are as long and as honest as before. If the result is `Ok`, no call of either failed. Otherwise the
+-- failed calls of one device match the refusal, and no call of the other failed.
 abbrev pub AreAccounted : {D E X : Type 0} → Ghosts D → Ghosts E → D → E → Result X Refusal → D → E → Type 0
 AreAccounted disk other old before result new after =
     (IsAccounted disk old result new × IsAccounted {X = Unit {0}} other before (Ok tt) after)
     ⊎ (IsAccounted {X = Unit {0}} disk old (Ok tt) new × IsAccounted other before result after)
 
--- Bytes of a volume were read, and written on another device to the n bytes from this offset on alone, or a call of one
--- of the two failed. All other bytes of that device are as before, also after a crash. The volume stays and isn't
--- written.
+-- Bytes of a volume were read, and written to another device, or a call of one of the two failed. Only the `n` bytes
+-- from offset `at` on were written. All other bytes of that device are as before, also after a crash. The volume's
+-- table and lengths are the same. If its device is honest, nothing was written to it.
 pub record Copies {D E X : Type 0} (disk : Ghosts D) (other : Ghosts E) (at n : ℕ) (old : VolumeState D) (before : E)
     (result : Result X Refusal) (new : VolumeState D) (after : E) : Type 0 where
   pub table : new.table ≡ old.table
@@ -76,11 +77,11 @@ pub record Copies {D E X : Type 0} (disk : Ghosts D) (other : Ghosts E) (at n : 
   pub time : LeavesOnly other.moment other.left_since before after (TornFrom at n (other.may_leave before))
   pub accounts : AreAccounted disk other old.device before result new.device after
 
--- the first block of file i, where the files' blocks begin at this one: files lie one after another
+-- the first block of file `i`, if the files' blocks begin at block `first`; files lie one after another
 abbrev pub home_at : ℕ → List TableFile → ℕ → ℕ
 home_at first files i = first + total_pages (take i files)
 
--- the first files were copied to their blocks, which begin at this one, and every other byte is as before
+-- The first `count` files were copied to their blocks, which begin at block `first`. Every other byte is as before.
 pub record AreCopied (first : ℕ) (files : List TableFile) (lengths : List ℕ) (bytes : ℕ → List ℕ) (count : ℕ)
     (start now : List ℕ) : Type 0 where
   pub same_length : length now ≡ length start
@@ -90,9 +91,9 @@ pub record AreCopied (first : ℕ) (files : List TableFile) (lengths : List ℕ)
       ⊎ (4096 * home_at first files file + slice_index lengths file ≤ i))
       → slice_index now i ≡ slice_index start i
 
--- A volume was copied to an honest device: that holds a volume of this layout with the same names, lengths and
--- capacities and with so many slots, its gates closed. Its files have the same bytes and zeros past their lengths, all
--- of it is synced, and what lies past the volume is as before.
+-- A volume was copied to an honest device. This device contains a volume with this layout and this number of slots, and
+-- with the same names, lengths and capacities. Its gates are closed. Its files have the same bytes, and zeros past
+-- their lengths. All of it is synced. The bytes past the volume are as before.
 pub record HasMigrated {D E : Type 0} (disk : Ghosts D) (other : Ghosts E) (layout slots : ℕ)
     (volume : VolumeState D) (before after : E) : Type 0 where
   pub table : SuperValue

@@ -1,4 +1,4 @@
--- What opening makes of a device, what a crash meanwhile leaves, and when it refuses.
+-- How an opening changes a device, what a crash meanwhile may leave, and when an opening is refused.
 use Rattle.std.specs.Prelude.{◌≡◌, ◌≢◌, ◌⊎◌, ℕ, ◌+◌, ◌*◌, List, length, sum_by}
 use Rattle.std.specs.Prelude.{slice_index, Result, Ok, Err, MatchResult}
 use Rattle.std.specs.List.{AllByRecursion}
@@ -14,15 +14,15 @@ use Rattle.journal.specs.Finished.{IsOutside, gate_byte, RecoversSame}
 use Rattle.recovery.specs.Counts.{Rises, RisesWithin, IsAccounted}
 use Rattle.recovery.specs.Volume.{VolumeState}
 
--- nothing was written, at no moment: a read gives what it gave, and a crash now, or at any moment since old, leaves
--- no more than it might have left then
+-- Nothing was written between `old` and `new`. A read returns the same bytes. A crash now, or at any moment since
+-- `old`, leaves only what it might have left at `old`.
 pub record IsUnwritten {D : Type 0} (disk : Ghosts D) (old new : D) : Type 0 where
   pub same : disk.seen new ≡ disk.seen old
   pub left : (c : List ℕ) → disk.may_leave new c → disk.may_leave old c
   pub time : LeavesOnly disk.moment disk.left_since old new (disk.may_leave old)
 
--- These batches were carried out: each home block has what stood for it, the gates of their journals are closed by
--- the byte 0, and every other byte is as before.
+-- These batches were carried out. Each home block contains its recovered bytes. The gates of the batches' journals are
+-- closed with the byte 0. Every other byte is as before.
 pub record IsOpened (g : GeometryValue) (batches : List Batch) (old new : List ℕ) : Type 0 where
   pub same_length : length new ≡ length old
   pub homes : (b : ℕ) → IsHome g b → block_at new b ≡ contents_in g.slots batches old b
@@ -30,21 +30,22 @@ pub record IsOpened (g : GeometryValue) (batches : List Batch) (old new : List �
   pub others : (i : ℕ) → IsOutside g i → AllByRecursion (λ batch. i ≢ gate_byte g.slots batch) batches
       → slice_index new i ≡ slice_index old i
 
--- what a crash leaves of an opening: what it might have left before it, or, where a read then gave a volume, what
--- recovers to the same contents, with the same bytes past the volume
+-- A crash during an opening may leave `c`, in one of two cases. A crash before the opening might have left `c`. Or a
+-- read returned a volume before, and `c` recovers to the same contents, with the same bytes past the volume.
 abbrev pub LeftByOpening : {D : Type 0} → Ghosts D → D → List ℕ → Type 0
 LeftByOpening disk before c = disk.may_leave before c
     ⊎ ((table : SuperValue) × (batches : List Batch) × IsVolume table batches (disk.seen before)
     × RecoversSame table (contents_in table.slots batches (disk.seen before)) (disk.seen before) c)
 
--- how many device calls an opening makes: it reads block 0, syncs, reads each gate byte, and the lengths where a block
--- has them; for each open batch it reads the descriptor, reads and writes each record, syncs, closes the gate and syncs
+-- The number of device calls of an opening. It reads block 0, syncs, reads each gate byte, and reads the lengths if the
+-- layout has a block for them. For each open batch it reads the descriptor, reads and writes each record, syncs, closes
+-- the gate and syncs.
 abbrev pub opening_calls : SuperValue → List Batch → ℕ
 opening_calls table batches =
     2 + journals_of table.layout + lengths_blocks table.layout + sum_by (λ batch. 2 * length batch.homes + 4) batches
 
--- a device that held a volume with this table was opened: its files had lengths, its open batches were carried out, and
--- all of it is synced
+-- A device that contained a volume with this table was opened. Its files had lengths. Its open batches were carried
+-- out, and all of it is synced.
 pub record HasOpened {D : Type 0} (disk : Ghosts D) (before : D) (table : SuperValue) (after : D) : Type 0 where
   pub batches : List Batch
   pub held : IsVolume table batches (disk.seen before)
@@ -53,17 +54,18 @@ pub record HasOpened {D : Type 0} (disk : Ghosts D) (before : D) (table : SuperV
   pub synced : Only (disk.may_leave after) (disk.seen after)
   pub calls : Rises (opening_calls table batches) (disk.calls_made before) (disk.calls_made after)
 
--- the table that an opening found, or why it was refused
+-- the table that an opening found, or the reason for which it was refused
 abbrev pub opened_table : {D : Type 0} → Result (VolumeState D) (Refusal × D) → Result SuperValue Refusal
 opened_table (Ok volume) = Ok volume.table
 opened_table (Err refused) = Err refused.0
 
--- the device that an opening leaves
+-- the device after an opening
 abbrev pub device_after : {D : Type 0} → Result (VolumeState D) (Refusal × D) → D
 device_after (Ok volume) = volume.device
 device_after (Err refused) = refused.1
 
--- why a device with these bytes isn't opened, as far as its bytes are the reason
+-- The bytes of a device allow this refusal of an opening. `NotAVolume`: they are no volume. `Damaged`: they are a
+-- damaged volume. `Device` and `OutOfMemory` are possible with any bytes.
 abbrev pub RefusesOpening : List ℕ → Refusal → Type 0
 RefusesOpening bytes NotAVolume = IsNotAVolume bytes
 RefusesOpening bytes Damaged = IsDamaged bytes
@@ -71,20 +73,20 @@ RefusesOpening bytes Device = Unit {0}
 RefusesOpening bytes OutOfMemory = Unit {0}
 RefusesOpening bytes _ = ⊥
 
--- how many device calls it takes at most to find the open batches and the lengths of a device with these bytes: one
--- reads block 0; where a table is there, one syncs, for each journal one reads the gate and one the descriptor, and one
--- reads the lengths where a block has them
+-- The count of device calls rose at most by those that find the open batches and the lengths of a device with these
+-- bytes. One call reads block 0. If block 0 contains a table, one call syncs. Two calls for each journal read the gate
+-- and the descriptor. One call reads the lengths if the layout has a block for them.
 abbrev pub FindsWithin : List ℕ → ℕ → ℕ → Type 0
 FindsWithin bytes old new = RisesWithin 1 old new
     ⊎ ((table : SuperValue) × IsSuper table (block_at bytes 0)
     × RisesWithin (2 + 2 * journals_of table.layout + lengths_blocks table.layout) old new)
 
--- an opening was refused while it looked for open batches and lengths: nothing was written
+-- An opening was refused while it looked for open batches and lengths. Nothing was written.
 pub record HasNotBegun {D : Type 0} (disk : Ghosts D) (before after : D) : Type 0 where
   pub unwritten : IsUnwritten disk before after
   pub calls : FindsWithin (disk.seen before) (disk.calls_made before) (disk.calls_made after)
 
--- a device call failed while the open batches of a volume, whose files had lengths, were carried out
+-- A device call failed while the open batches of a volume were carried out. The volume's files had lengths.
 pub record HasFailed {D : Type 0} (disk : Ghosts D) (before : D) (refusal : Refusal) (after : D) : Type 0 where
   pub device : refusal ≡ Device
   pub table : SuperValue
@@ -93,18 +95,18 @@ pub record HasFailed {D : Type 0} (disk : Ghosts D) (before : D) (refusal : Refu
   pub lengths : HasLengths table (contents_in table.slots batches (disk.seen before))
   pub calls : RisesWithin (opening_calls table batches) (disk.calls_made before) (disk.calls_made after)
 
--- an opening was refused: for its reason, before it wrote anything or by a device call that failed since
+-- An opening was refused for this reason: before it wrote anything, or because a device call failed afterwards.
 pub record HasRefused {D : Type 0} (disk : Ghosts D) (before : D) (refusal : Refusal) (after : D) : Type 0 where
   pub reason : RefusesOpening (disk.seen before) refusal
   pub done : HasNotBegun disk before after ⊎ HasFailed disk before refusal after
 
--- An opening of a device, which came to this result and left the device so. What is said of its bytes is said of an
--- honest device.
+-- An opening of the device `before` had this result, and left the device `after`. The claims about bytes hold if the
+-- device is honest.
 pub record Opens {D : Type 0} (disk : Ghosts D) (before : D) (result : Result SuperValue Refusal) (after : D)
     : Type 0 where
   pub kept : IsAccounted disk before result after
   pub ended : disk.is_honest before
       → MatchResult result (λ table. HasOpened disk before table after)
       (λ refusal. HasRefused disk before refusal after)
-  -- a crash at any moment since it began
+  -- what a crash at any moment since the opening began may leave
   pub within : disk.is_honest before → LeavesOnly disk.moment disk.left_since before after (LeftByOpening disk before)

@@ -1,4 +1,4 @@
--- A volume that was opened: its table, the lengths of its files, and the device that it lies on.
+-- An opened volume: its table, the lengths of its files, and its device.
 use Rattle.std.specs.Prelude.{◌≡◌, ℕ, ◌*◌, ◌≤◌, List, [], map, length, slice_index_or}
 use Rattle.device.specs.Device.{Only}
 use Rattle.device.specs.declared.device.Device.{Ghosts}
@@ -8,22 +8,22 @@ use Rattle.volume_codec.specs.Super.{SuperValue, Fits, block_count, capacities_i
 use Rattle.volume_codec.specs.Lengths.{AreLengths, HasLengths, lengths_in}
 use Rattle.volume_codec.specs.Recovery.{IsVolume, files_in}
 
--- what a volume is to its users: the table of its files, the length of each, and its device
+-- A volume, as its users see it: the table of its files, the length of each, and its device.
 pub record VolumeState (D : Type 0) : Type 0 where
   pub table : SuperValue
   pub lengths : List ℕ
   pub device : D
 
--- an honest device that holds a volume with its gates closed and the lengths of its files, all of it synced, so that a
--- crash leaves what a read gives
+-- The device contains a volume with closed gates and these lengths of its files. All of it is synced, so a crash leaves
+-- the bytes that a read of an honest device returns.
 pub record IsAtRest {D : Type 0} (disk : Ghosts D) (volume : VolumeState D) : Type 0 where
   pub holds : IsVolume volume.table [] (disk.seen volume.device)
   pub lengths_fit : HasLengths volume.table (block_at (disk.seen volume.device))
   pub lengths_are : volume.lengths ≡ lengths_in volume.table (block_at (disk.seen volume.device))
   pub synced : Only (disk.may_leave volume.device) (disk.seen volume.device)
 
--- the device is long enough for a volume with this table and these lengths, which are the capacities in a layout
--- without a lengths block, and an honest one is at rest
+-- The table and the lengths obey the format's rules, and the device is long enough for them. In a layout without a
+-- lengths block, the lengths are the capacities. If the device is honest, the volume is at rest.
 pub record IsWellFormed {D : Type 0} (disk : Ghosts D) (volume : VolumeState D) : Type 0 where
   pub fits : Fits volume.table
   pub long : 4096 * block_count volume.table ≤ length (disk.seen volume.device)
@@ -31,7 +31,7 @@ pub record IsWellFormed {D : Type 0} (disk : Ghosts D) (volume : VolumeState D) 
   pub fixed : lengths_blocks volume.table.layout ≡ 0 → volume.lengths ≡ capacities_in volume.table
   pub at_rest : disk.is_honest volume.device → IsAtRest disk volume
 
--- the files of a volume whose gates are closed, where its device has these bytes
+-- the files of a volume with closed gates, if its device has these bytes
 abbrev pub files_of : SuperValue → List ℕ → List File
 files_of table bytes = files_in table (block_at bytes)
 

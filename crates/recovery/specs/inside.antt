@@ -1,4 +1,4 @@
--- What ties the private code of this crate to its definitions; no public contract names it.
+-- Definitions that connect private code with the definitions in public contracts. No public contract names them.
 pub mod Carrying
 pub mod Reading
 pub mod Erasing

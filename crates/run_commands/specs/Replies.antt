@@ -1,4 +1,4 @@
--- What is printed of a run: a line for each reply; and the first of them that says that the device failed.
+-- The printed output of a run, which is a line for each reply, and the first reply that reports a device failure.
 use Rattle.std.specs.Prelude.{ℕ, ◌≡◌, ◌⊎◌, ◌+◌, ◌<◌, ◌^◌, Bool, true, false, if◌then◌else◌}
 use Rattle.std.specs.Prelude.{List, [], ◌∷◌, ◌++◌, length, take, Option, Some, None, IsSome}
 use Rattle.std.specs.List.{flat_map}
@@ -13,14 +13,15 @@ use Rattle.run_commands.specs.declared.printer.Printer.{Printer}
 abbrev pub line_of : Reply → List ℕ
 line_of reply = reply_text reply ++ 10 ∷ []
 
--- the number of the first reply that tells a failure, counted from n + 1, where none before it did
+-- The number of the first reply that reports a failure, or `found` if an earlier reply did. These replies are numbered
+-- from `n` + 1.
 abbrev pub failure_after : ℕ → Option ℕ → List Reply → Option ℕ
 failure_after n found [] = found
 failure_after n None (reply ∷ replies) =
     failure_after (n + 1) (if reports_failure reply then Some (n + 1) else None) replies
 failure_after n (Some first) (reply ∷ replies) = Some first
 
--- Its line was printed and counted, and the first failure remembered.
+-- The reply's line was printed and counted. The number of the first failure is kept.
 pub record IsPrinted {W : Type 0} (contents : W → Option (List ℕ)) (old : Printer W) (reply : Reply)
     (new : Printer W) : Type 0 where
   pub line : Appends (contents old.out) (contents new.out) (line_of reply)
@@ -28,7 +29,7 @@ pub record IsPrinted {W : Type 0} (contents : W → Option (List ℕ)) (old : Pr
   pub failure : old.count + 1 < 2 ^ 64 → new.failure ≡ failure_after old.count old.failure (reply ∷ [])
   pub no_fault : new.fault ≡ old.fault
 
--- a printer is told a reply: it prints it and goes on, or its output fails and it stops
+-- A printer received a reply. `true`: it printed the reply, and continues. `false`: its output failed, and it stops.
 abbrev pub Prints : {W : Type 0} → (W → Option (List ℕ)) → Printer W → Reply → Bool → Printer W → Type 0
 Prints contents old reply true new = IsPrinted contents old reply new
 Prints contents old reply false new = IsSome new.fault
@@ -40,7 +41,7 @@ pub record ArePrinted {W : Type 0} (contents : W → Option (List ℕ)) (old : P
   pub failure : old.count + length replies < 2 ^ 64 → new.failure ≡ failure_after old.count old.failure replies
   pub no_fault : new.fault ≡ old.fault
 
--- The output failed at the line of the last of these replies, after those of the others.
+-- The output failed at the line of the last of these replies, after the lines of the others.
 pub record HasFailedAtLast {W : Type 0} (contents : W → Option (List ℕ)) (old : Printer W) (replies : List Reply)
     (new : Printer W) : Type 0 where
   pub earlier : List Reply
@@ -50,12 +51,12 @@ pub record HasFailedAtLast {W : Type 0} (contents : W → Option (List ℕ)) (ol
   pub printed : ArePrinted contents old earlier before
   pub failed : IsSome new.fault
 
--- of so many steps each reply was printed, or the output failed at the last one that was made
+-- Each reply to `n` steps was printed, or the output failed at the reply to the last step that was made.
 abbrev pub ArePrintedOf : {W : Type 0} → (W → Option (List ℕ)) → ℕ → Printer W → List Reply → Printer W → Type 0
 ArePrintedOf contents n old replies new =
     (ArePrinted contents old replies new × (length replies ≡ n)) ⊎ HasFailedAtLast contents old replies new
 
--- a run of these steps is printed: it made as many of them as it has replies, and left this device
+-- A run of these steps was printed. It made the first steps, one for each of its replies, and left the device `after`.
 abbrev pub IsPrintedRun : {W D : Type 0} → (W → Option (List ℕ)) → (List Step → List Reply → D → Type 0) → List Step
     → Printer W → Printer W → D → Type 0
 IsPrintedRun contents ran steps old new after = (replies : List Reply)

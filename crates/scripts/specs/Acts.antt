@@ -1,4 +1,4 @@
--- Acts in a script: the arguments of each, and its name.
+-- Acts in a script: the name and the arguments of each.
 use Rattle.std.specs.Prelude.{ℕ, List, [], ◌∷◌, find, codes, Option, Some, None}
 use Rattle.std.specs.Str.{bytes_eq}
 use Rattle.serde_json.specs.Data.{Data}
@@ -9,12 +9,12 @@ use Rattle.machine.specs.declared.act.Act.TheVariants.{Load, Store, Fill, Evict,
 use Rattle.machine.specs.declared.act.Act.TheVariants.{Create, Destroy, Map, Unmap, Protect, Reclaim}
 use Rattle.machine.specs.declared.act.Act.TheVariants.{Msync, SetLength, Ack, Change, Resume, Flush}
 
--- no arguments
+-- an act without arguments
 abbrev pub without_more : Act → List Data → Option Act
 without_more act [] = Some act
 without_more act _ = None
 
--- one argument, two and three, each read in its way
+-- acts with one, two and three arguments, each read with its own function
 abbrev pub of_one : {A : Type 0} → (Data → Option A) → (A → Act) → List Data → Option Act
 of_one first act (x ∷ []) = if_some (first x) (λ a. Some (act a))
 of_one first act _ = None
@@ -29,7 +29,8 @@ of_three first second third act (x ∷ y ∷ z ∷ []) =
     if_some (first x) (λ a. if_some (second y) (λ b. if_some (third z) (λ c. Some (act a b c))))
 of_three first second third act _ = None
 
--- a space, an address and a length, a file and an offset, rights, and the access with which the file was opened
+-- the arguments of map: a space, an address, a length, a file, an offset, rights, and the access with which the file
+-- was opened
 abbrev pub map_of : List Data → Option Act
 map_of (space ∷ va ∷ len ∷ file ∷ offset ∷ prot ∷ access ∷ []) =
     if_some (short_of space) (λ space. if_some (long_of va) (λ va. if_some (long_of len) (λ len.
@@ -38,14 +39,14 @@ map_of (space ∷ va ∷ len ∷ file ∷ offset ∷ prot ∷ access ∷ []) =
     Some (Map space va len file offset prot access))))))))
 map_of _ = None
 
--- a space, an address and a length, and rights
+-- the arguments of protect: a space, an address, a length and rights
 abbrev pub protect_of : List Data → Option Act
 protect_of (space ∷ va ∷ len ∷ prot ∷ []) =
     if_some (short_of space) (λ space. if_some (long_of va) (λ va. if_some (long_of len) (λ len.
     if_some (prot_of prot) (λ prot. Some (Protect space va len prot)))))
 protect_of _ = None
 
--- acts by their names, each with its arguments
+-- the acts by name, each with the function that reads its arguments
 abbrev pub acts_by_name : List (List ℕ × (List Data → Option Act))
 acts_by_name =
     -- an address and a count; an address and bytes
@@ -58,7 +59,7 @@ acts_by_name =
     ∷ (codes "switch", of_two short_of keep_of Switch)
     ∷ (codes "idle", without_more Idle)
     ∷ (codes "wake", without_more Wake)
-    -- an address and whether it is for a write
+    -- an address, and whether the access is a write
     ∷ (codes "fix", of_two long_of write_of Fix)
     ∷ (codes "create", without_more Create)
     -- a space
@@ -78,6 +79,6 @@ acts_by_name =
     ∷ (codes "resume", without_more Resume)
     ∷ (codes "flush", without_more Flush) ∷ []
 
--- the act of a name and arguments
+-- the act with this name and these arguments
 abbrev pub act_of : List ℕ → List Data → Option Act
 act_of name arguments = if_some (find (λ row. bytes_eq name row.0) acts_by_name) (λ row. row.1 arguments)

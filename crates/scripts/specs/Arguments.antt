@@ -8,15 +8,15 @@ use Rattle.mappings.specs.declared.place.Rights.{Rights}
 use Rattle.machine.specs.declared.msync_flags.MsyncFlags.{MsyncFlags}
 use Rattle.mappings.specs.declared.place.Rights.TheVariants.{Read, ReadWrite}
 
--- what f makes of the value, if there is one
+-- the result of `f` for the value, if there is one
 abbrev pub if_some : {A B : Type 0} → Option A → (A → Option B) → Option B
 if_some o f = option_and_then f o
 
--- n where it is at most most
+-- `n` if it is at most `most`
 abbrev pub up_to : ℕ → ℕ → Option ℕ
 up_to most n = if nat_le n most then Some n else None
 
--- a whole number that isn't negative, written without a point and an exponent, and at most most
+-- a whole number from 0 to `most`, written without a point and an exponent
 abbrev pub whole_number : ℕ → Data → Option ℕ
 whole_number most value = if_some (if_some (as_number value) as_u64) (up_to most)
 
@@ -33,18 +33,18 @@ page_number_of = whole_number 4294967295
 abbrev pub long_of : Data → Option ℕ
 long_of = whole_number (2 ^ 64 - 1)
 
--- flags of msync, of which all bits are kept
+-- the flags of msync, with all their bits
 abbrev pub flags_of : Data → Option MsyncFlags
 flags_of value = option_map (λ bits. record { 0 = bits }) (byte_of value)
 
--- what the row of a table whose word this is has beside the word
+-- the value beside this word in the table
 abbrev pub beside : {X : Type 0} → List (List ℕ × X) → List ℕ → Option X
 beside table word = option_map (λ row. row.1) (find (λ row. bytes_eq word row.0) table)
 
 abbrev pub one_of : {X : Type 0} → List (List ℕ × X) → Data → Option X
 one_of table value = if_some (as_str value) (beside table)
 
--- rights of a mapping: writing alone counts as both
+-- the rights of a mapping; the right to write includes the right to read
 abbrev pub prot_of : Data → Option Rights
 prot_of = one_of ((codes "r", Read) ∷ (codes "w", ReadWrite) ∷ (codes "rw", ReadWrite) ∷ [])
 
@@ -56,16 +56,16 @@ access_of = one_of ((codes "r", Read) ∷ (codes "rw", ReadWrite) ∷ [])
 abbrev pub keep_of : Data → Option Bool
 keep_of = one_of ((codes "keep", true) ∷ (codes "drop", false) ∷ [])
 
--- whether a fault is of a write
+-- whether a fault is for a write
 abbrev pub write_of : Data → Option Bool
 write_of = one_of ((codes "read", false) ∷ (codes "write", true) ∷ [])
 
--- a list's items
+-- the items of a list
 abbrev pub list_of : Items → List Data
 list_of no_items = []
 list_of (item d ds) = d ∷ list_of ds
 
--- what f makes of each, where it makes something of all
+-- the results of `f` for all items, if there is a result for each
 abbrev pub all_of : {A B : Type 0} → (A → Option B) → List A → Option (List B)
 all_of f [] = Some []
 all_of f (x ∷ xs) = if_some (f x) (λ y. if_some (all_of f xs) (λ ys. Some (y ∷ ys)))

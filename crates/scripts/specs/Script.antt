@@ -17,11 +17,11 @@ items_step (p ∷ name ∷ arguments) =
     (λ name. if_some (act_of name arguments) (λ act. Some (record { p = p; act = act }))))
 items_step _ = None
 
--- a step in a list
+-- a step that is written as a list
 abbrev pub step_of : Data → Option Step
 step_of value = if_some (as_array value) (λ items. items_step (list_of items))
 
--- the number that a member is
+-- the number in the member with this name
 abbrev pub size_of : List ℕ → Data → Option ℕ
 size_of name value = if_some (get name value) long_of
 
@@ -40,6 +40,6 @@ abbrev pub script_of : Data → Option (Shape × List Step)
 script_of value = if has_form form.Script value
     then if_some (shape_of value) (λ shape. if_some (steps_of value) (λ steps. Some (shape, steps))) else None
 
--- the shape and the steps of a script's text
+-- the shape and the steps of a script with this text
 abbrev pub script_in : List ℕ → Option (Shape × List Step)
 script_in text = if_some (read text) script_of

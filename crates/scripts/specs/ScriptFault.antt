@@ -4,7 +4,7 @@ use Rattle.scripts.specs.declared.script_fault.ScriptFault.TheVariants.{NotUtf8,
 use Rattle.scripts.specs.declared.script_fault.ScriptFault.TheVariants.{Unknown, Number, NotAList, Step, Programs}
 use Rattle.scripts.specs.declared.script_fault.ScriptFault.TheVariants.{Program, Command, Processor, Memory}
 
--- memory was refused
+-- The fault is that memory was refused.
 abbrev pub IsMemory : ScriptFault → Type 0
 IsMemory (Memory cause) = Unit {0}
 IsMemory NotUtf8 = ⊥

@@ -1,4 +1,4 @@
--- Scripts for threads: a machine's shape, the room of the trace, steps to make first, and a program of commands for
+-- Scripts for threads: a machine's shape, the capacity of the trace, steps to make first, and a program of commands for
 -- each processor.
 use Rattle.std.specs.Prelude.{ℕ, ◌&&◌, ◌==◌, nat_lt, List, [], ◌∷◌, length, Bool}
 use Rattle.std.specs.Prelude.{if◌then◌else◌, codes, Option, Some, None}
@@ -18,7 +18,7 @@ use Rattle.machine.specs.declared.act.Act.{Act}
 use Rattle.machine.specs.declared.act.Shape.{Shape}
 use Rattle.machine.specs.declared.act.Step.{Step}
 
--- an address, and the byte that is to come there
+-- an address, and the byte to wait for at that address
 abbrev pub await_of : List Data → Option Command
 await_of (va ∷ byte ∷ []) = if_some (long_of va) (λ va. if_some (byte_of byte) (λ byte. Some (Await va byte)))
 await_of _ = None
@@ -28,12 +28,12 @@ abbrev pub commanded : List (List ℕ)
 commanded = codes "load" ∷ codes "store" ∷ codes "switch" ∷ codes "map" ∷ codes "unmap" ∷ codes "protect"
     ∷ codes "reclaim" ∷ codes "msync" ∷ []
 
--- the act of a command's name and arguments
+-- the act with a command's name and arguments, if it can be a command
 abbrev pub commanded_of : List ℕ → List Data → Option Act
 commanded_of name arguments =
     if list_any (λ known. bytes_eq name known) commanded then act_of name arguments else None
 
--- the command of a name and arguments
+-- the command with this name and these arguments
 abbrev pub command_named : List ℕ → List Data → Option Command
 command_named name arguments = if bytes_eq name (codes "await") then await_of arguments
     else if_some (commanded_of name arguments) (λ act. Some (Do act))
@@ -43,7 +43,7 @@ abbrev pub items_command : List Data → Option Command
 items_command (name ∷ arguments) = if_some (as_str name) (λ name. command_named name arguments)
 items_command [] = None
 
--- a command in a list
+-- a command that is written as a list
 abbrev pub command_of : Data → Option Command
 command_of value = if_some (as_array value) (λ items. items_command (list_of items))
 
@@ -56,17 +56,17 @@ abbrev pub programs_of : Data → Option (List (List Command))
 programs_of value =
     if_some (if_some (get (codes "programs") value) as_array) (λ items. all_of program_of (list_of items))
 
--- whether there are as many programs as processors, and each step is of a processor that there is
+-- whether there is one program for each processor, and each step has the number of a processor
 abbrev pub are_for : ℕ → List Step → List (List Command) → Bool
 are_for cpus steps programs = (length programs == cpus) && list_all (λ step. nat_lt step.p cpus) steps
 
--- the shape, the room of the trace, the steps and the programs of a script for threads
+-- the shape, the capacity of the trace, the steps and the programs of a script for threads
 abbrev pub thread_script_of : Data → Option (Shape × ℕ × List Step × List (List Command))
 thread_script_of value = if has_form form.ThreadScript value
     then if_some (shape_of value) (λ shape. if_some (size_of (codes "trace") value) (λ trace.
     if_some (steps_of value) (λ steps. if_some (programs_of value) (λ programs.
     if are_for shape.cpus steps programs then Some (shape, trace, steps, programs) else None)))) else None
 
--- the same of its text
+-- the same for a script with this text
 abbrev pub thread_script_in : List ℕ → Option (Shape × ℕ × List Step × List (List Command))
 thread_script_in text = if_some (read text) thread_script_of

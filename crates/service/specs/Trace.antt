@@ -1,4 +1,4 @@
--- The trace of a service: the steps that were made, each with its reply, in the order in which they were made.
+-- The trace of a service: its steps, each with its reply, in the order in which they were made.
 use Rattle.std.specs.Prelude.{ℕ, ◌==◌, ◌&&◌, Bool, true, false, List, map, filter, count_by}
 use Rattle.page_entry.specs.declared.refusal.Refusal.TheVariants as refusals
 use Rattle.machine.specs.declared.act.Act.{Act}
@@ -15,7 +15,7 @@ may_be_seen (acts.Fill page) = false
 may_be_seen (acts.Evict slot) = false
 may_be_seen act = true
 
--- whether a reply says that something was done, or that a device call failed
+-- whether a reply reports that something was done, or that a device call failed
 abbrev pub has_done : Reply → Bool
 has_done (replies.Refused refusals.Device) = true
 has_done (replies.Refused why) = false
@@ -26,7 +26,7 @@ has_done reply = true
 abbrev pub is_progress : Act → Reply → Bool
 is_progress act reply = may_be_seen act && has_done reply
 
--- how many entries of a trace are progress
+-- the number of entries of a trace that are progress
 abbrev pub progress_of : List Entry → ℕ
 progress_of trace = count_by (λ e. is_progress e.step.act e.reply) trace
 

@@ -1,4 +1,4 @@
--- The line that answers a request, without its line feed, and what was done for it.
+-- The answers to requests, and the steps that carry out the requests. An answer is a line, without its line feed.
 use Rattle.std.specs.Prelude.{ℕ, zero, suc, ◌≡◌, ◌⊎◌, ◌-◌, ◌^◌, ◌<◌, List, [], ◌∷◌, ◌++◌, length}
 use Rattle.std.specs.Prelude.{Option, Some, None, OnSome, Result, Ok, Err, codes, IsUtf8}
 use Rattle.std.specs.Fmt.{decimal}
@@ -20,53 +20,54 @@ use Rattle.session.specs.Notes.{noted_all}
 use Rattle.session.specs.Ranges.{LoadsReached, StoresReached}
 use Rattle.session.specs.Requests.{Asked, asks_steps, asks_load, asks_store, asks_commit, asks_length, request_in}
 
--- the replies of steps, with "; " between them
+-- the replies to steps, separated by "; "
 abbrev pub steps_text : List Reply → List ℕ
 steps_text [] = []
 steps_text (reply ∷ []) = reply_text reply
 steps_text (reply ∷ replies) = reply_text reply ++ codes "; " ++ steps_text replies
 
--- what the reply of a step adds to those of so many steps before it
+-- The text that a reply adds to an answer. The answer already contains this number of replies.
 abbrev pub reply_after : ℕ → Reply → List ℕ
 reply_after zero reply = reply_text reply
 reply_after (suc number) reply = codes "; " ++ reply_text reply
 
--- the reply of the step at which a range ended, and how many bytes of it came before
+-- the text for a range that ends early: the reply that ended it, and the number of bytes before
 abbrev pub refusal_text : Reply → ℕ → List ℕ
 refusal_text reply count = reply_text reply ++ codes " after " ++ decimal count
 
--- that a range was loaded, or how far
+-- the answer to a load, without the bytes
 abbrev pub reached_text : Reached → List ℕ
 reached_text (Refused count reply) = refusal_text reply count
 reached_text _ = codes "loaded"
 
--- a text after a space, if there is any
+-- a text after a space, or no text if it is empty
 abbrev pub text_after_space : List ℕ → List ℕ
 text_after_space [] = []
 text_after_space text = 32 ∷ text
 
--- the hexadecimal digits of bytes after a space, if there are any
+-- the hexadecimal digits of bytes after a space, or no text if there are no bytes
 abbrev pub digits_text : List ℕ → List ℕ
 digits_text [] = []
 digits_text bytes = 32 ∷ encode_lower bytes
 
--- a range that was loaded, as far as it was; there is no answer where memory was refused
+-- The answer to a load contains the loaded bytes. If the range ended early, it reports this too. If memory was refused,
+-- there is no answer.
 abbrev pub ReportsLoaded : Reached → List ℕ → List ℕ → Type 0
 ReportsLoaded All bytes answer = answer ≡ codes "loaded" ++ digits_text bytes
 ReportsLoaded (Refused count reply) bytes answer = answer ≡ refusal_text reply count ++ digits_text bytes
 ReportsLoaded NoMemory bytes answer = ⊥
 
--- a range of so many bytes that was stored, as far as it was
+-- the answer to a store of `count` bytes
 abbrev pub stored_text : Reached → ℕ → List ℕ
 stored_text (Refused reached reply) count = refusal_text reply reached
 stored_text _ count = codes "stored " ++ decimal count
 
--- a mark that is acknowledged, or what a step of the commit was answered instead
+-- the answer to a commit: the acknowledged mark, or the reply to the step that stopped the commit
 abbrev pub committed_text : Result ℕ Reply → List ℕ
 committed_text (Ok mark) = codes "committed " ++ decimal mark
 committed_text (Err reply) = reply_text reply
 
--- All that was asked for was done by these steps, as far as the machine makes them, and this is what is answered.
+-- The steps carry out the request, as far as the machine makes them, and this is the answer.
 abbrev pub AnswersRequest : Notes → Asked → List ℕ → List Step → List Reply → Type 0
 AnswersRequest before (asks_steps wanted) answer steps replies = (steps ≡ wanted) × (answer ≡ steps_text replies)
 AnswersRequest before (asks_load p va count) answer steps replies =
@@ -80,33 +81,34 @@ AnswersRequest before (asks_commit p) answer steps replies =
 AnswersRequest before (asks_length p file to) answer steps replies =
     (all : ℕ) × (reply : Reply) × AnswersLength p file to reply all steps replies × (answer ≡ reply_text reply)
 
--- What was asked for was done and answered: a line was written for it.
+-- The steps carry out the request, and the answer is appended to the output as a line.
 abbrev pub WritesAnswer : Notes → Asked → Option (List ℕ) → Option (List ℕ) → List Step → List Reply → Type 0
 WritesAnswer before what old new steps replies =
     (answer : List ℕ) × AnswersRequest before what answer steps replies × Appends old new (answer ++ 10 ∷ [])
 
--- a line that isn't UTF-8, or is no request
+-- The line isn't UTF-8, or it contains no request.
 abbrev pub AsksNothing : List ℕ → Type 0
 AsksNothing line = (request_in line ≡ None) ⊎ ¬ (IsUtf8 line)
 
--- A line was answered so, by what it asks for; a line that asks for nothing is a bad one.
+-- The steps carry out the request in the line, and this is the answer. A line that contains no request is bad
+-- (`IsBad`).
 abbrev pub AnswersLine : Notes → List ℕ → List ℕ → List Step → List Reply → Type 0
 AnswersLine before line answer steps replies =
     (AsksNothing line × ((why : RequestFault) × IsFaultOf why line × IsBad why answer steps replies))
     ⊎ ((what : Asked) × (request_in line ≡ Some what) × AnswersRequest before what answer steps replies)
 
--- A line was answered, and the answer was written as a line.
+-- The line is answered, and the answer is appended to the output as a line.
 abbrev pub WritesAnswerOf : Notes → List ℕ → Option (List ℕ) → Option (List ℕ) → List Step → List Reply → Type 0
 WritesAnswerOf before line old new steps replies =
     (answer : List ℕ) × AnswersLine before line answer steps replies × Appends old new (answer ++ 10 ∷ [])
 
--- One line was answered. A line that is too long is a bad one; of what it asks for nothing is said.
+-- One line of the input is answered. A line that is too long (`None`) is bad, even if it contains a request.
 abbrev pub IsAnsweredNext : Notes → Option (List ℕ) → List ℕ → List Step → List Reply → Type 0
 IsAnsweredNext before (Some line) answer steps replies = AnswersLine before line answer steps replies
 IsAnsweredNext before None answer steps replies = IsBad (Long 262144) answer steps replies
 
--- Lines were answered in order, each by the steps after those of the lines before it; the text has the answer to each,
--- and a line feed after it.
+-- The lines are answered in order. The steps for each line follow the steps for the lines before it. The text contains
+-- the answer to each line, and a line feed after it.
 abbrev pub AnswersLines : Notes → List (Option (List ℕ)) → List ℕ → List Step → List Reply → Type 0
 AnswersLines before [] text steps replies = (text ≡ []) × (steps ≡ []) × (replies ≡ [])
 AnswersLines before (line ∷ lines) text steps replies =
@@ -114,14 +116,15 @@ AnswersLines before (line ∷ lines) text steps replies =
     × IsAnsweredNext before line answer first replied × AnswersLines (noted_all before replied) lines rest later more
     × (text ≡ answer ++ 10 ∷ rest) × (steps ≡ first ++ later) × (replies ≡ replied ++ more)
 
--- So many lines of the input were read and answered, and the answers were written as lines.
+-- `count` lines of the input are read and answered, and the answers are appended to the output as lines. `rest` is the
+-- input that is left.
 abbrev pub WritesAnswers : Notes → ℕ → Option (List ℕ) → Option (List ℕ) → Option (List ℕ) → Option (List ℕ)
     → List Step → List Reply → Type 0
 WritesAnswers before count input rest old new steps replies =
     (lines : List (Option (List ℕ))) × (text : List ℕ) × (length lines ≡ count) × ReadsLines input rest lines
     × AnswersLines before lines text steps replies × Appends old new text
 
--- The lines of the input were answered so: all of them, or the first 2 ^ 64 - 1.
+-- All lines of the input are answered, or the first 2 ^ 64 - 1 of them.
 abbrev pub AnswersInput : Notes → Option (List ℕ) → Option (List ℕ) → Option (List ℕ) → Option (List ℕ) → List Step
     → List Reply → Type 0
 AnswersInput before input rest old new steps replies =

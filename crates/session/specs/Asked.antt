@@ -1,4 +1,4 @@
--- What a request that was read asks for, and why a line is none.
+-- The request that was read from a line, and the steps that may be made for it.
 use Rattle.std.specs.Prelude.{ℕ, ◌≡◌, ◌⊎◌, List, [], take, Some}
 use Rattle.machine.specs.declared.act.Reply.{Reply}
 use Rattle.machine.specs.declared.act.Step.{Step}
@@ -19,7 +19,7 @@ asked (Store p va bytes) = asks_store p va bytes.items
 asked (Commit p) = asks_commit p
 asked (SetLength p file length) = asks_length p file length
 
--- memory was refused
+-- The fault is a lack of memory.
 abbrev pub IsMemory : RequestFault → Type 0
 IsMemory (fault.Memory cause) = Unit {0}
 IsMemory (fault.Long most) = ⊥
@@ -31,12 +31,12 @@ IsMemory (fault.Step cause) = ⊥
 IsMemory (fault.Steps number found cause) = ⊥
 IsMemory (fault.Bytes most) = ⊥
 
--- these are the first of the steps that were asked for
+-- The steps are the first of the requested steps.
 abbrev pub AreFirst : List Step → List Step → List Reply → Type 0
 AreFirst wanted steps replies = (count : ℕ) × (steps ≡ take count wanted)
 
--- What was done for what is asked for, and nothing else: steps in order, a range as far as it reached, or the steps of
--- a commit or of a new length.
+-- All these steps are made for the request. They are the first of the requested steps, or the steps of a range as far
+-- as it reached. Or they are the steps of a commit or of a new length.
 abbrev pub IsDoneFor : Asked → List Step → List Reply → Type 0
 IsDoneFor (asks_steps wanted) steps replies = AreFirst wanted steps replies
 IsDoneFor (asks_load p va count) steps replies =
@@ -47,7 +47,7 @@ IsDoneFor (asks_commit p) steps replies = AreOfCommit p steps replies
 IsDoneFor (asks_length p file length) steps replies =
     (all : ℕ) × (reply : Reply) × AnswersLength p file length reply all steps replies
 
--- What was done for a line: nothing, or what it asks for.
+-- No step is made for the line, or all these steps are made for the request in it.
 abbrev pub IsServedFor : List ℕ → List Step → List Reply → Type 0
 IsServedFor line steps replies = ((steps ≡ []) × (replies ≡ []))
     ⊎ ((what : Asked) × (request_in line ≡ Some what) × IsDoneFor what steps replies)

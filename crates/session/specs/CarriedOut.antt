@@ -1,5 +1,5 @@
--- What carrying out a request comes to, of a session as of whoever else makes requests: these are all that a contract
--- of one says of its machine and its notes.
+-- What is promised when a request is carried out, by a session or by any other code that makes requests. Contracts of
+-- such code promise nothing else about its machine and its notes.
 use Rattle.std.specs.Prelude.{ℕ, List, Option, Result, OnOk}
 use Rattle.device.specs.declared.device.Device.{Ghosts}
 use Rattle.machine.specs.declared.act.Reply.{Reply}
@@ -12,16 +12,16 @@ use Rattle.session.specs.Locks.{KeepsPhases, KeepsPhasesFor}
 use Rattle.session.specs.Ranges.{MakesStepsThat}
 use Rattle.session.specs.Requests.{Asked}
 
--- A request was carried out: steps were made of which this holds, and noted; and they left the lock and the processors'
--- phases as they were.
+-- A request is carried out: steps that satisfy `what` are made, and the notes include them. The lock and the
+-- processors' phases are unchanged afterwards.
 pub record CarriesOut {D : Type 0} (disk : Ghosts D) (old : Whole D) (before : Notes)
     (what : List Step → List Reply → Type 0) (new : Whole D) (after : Notes) : Type 0 where
   pub makes : MakesStepsThat disk old before what new after
   pub phases : KeepsPhases old.state new.state
 
--- A request was carried out as far as it was, and nothing else was done. Where that came to Ok, all of it was, and a
--- line was written that says what came of these same steps. Unless steps were asked for by name, they left the lock and
--- the processors' phases as they were, whatever came.
+-- A request is carried out as far as possible, and nothing else is done. If `result` is `Ok`, the whole request was
+-- carried out, and its answer was written as a line. Unless the request consists of steps, the lock and the processors'
+-- phases are unchanged afterwards, even if the result is an error.
 pub record CarriesOutFor {D T E : Type 0} (disk : Ghosts D) (old : Whole D) (before : Notes) (what : Asked)
     (result : Result T E) (written written' : Option (List ℕ)) (new : Whole D) (after : Notes) : Type 0 where
   pub does : MakesStepsThat disk old before (IsDoneFor what) new after

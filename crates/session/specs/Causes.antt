@@ -1,4 +1,4 @@
--- Why a line is no request, and the words that say so.
+-- Why a line contains no request, and the answer to such a line.
 use Rattle.std.specs.Prelude.{ℕ, ◌≡◌, ⊤, List, [], ◌∷◌, ◌++◌, None, codes, IsUtf8}
 use Rattle.std.specs.Fmt.{decimal}
 use Rattle.serde_json.specs.Find.{as_array}
@@ -11,8 +11,8 @@ use Rattle.session.specs.declared.request_fault.RequestFault.TheVariants as faul
 use Rattle.session.specs.Lines.{HasNoFeed}
 use Rattle.session.specs.Requests.{request_in}
 
--- What is wrong with a line that has this fault: it isn't UTF-8, or no JSON, or no list, or the grammar has no request
--- for it. (A line that is too long isn't read, and a refusal of memory is no fault of the line.)
+-- The line has this fault: it isn't UTF-8, isn't JSON, isn't a list, or isn't a request of the grammar. Two faults
+-- belong to no line: a line that is too long isn't read, and a lack of memory is no fault of a line.
 abbrev pub IsFaultOf : RequestFault → List ℕ → Type 0
 IsFaultOf fault.NotUtf8 line = ¬ (IsUtf8 line)
 IsFaultOf (fault.NotJson cause) line = read line ≡ None
@@ -21,7 +21,7 @@ IsFaultOf (fault.Long most) line = ⊥
 IsFaultOf (fault.Memory cause) line = ⊥
 IsFaultOf why line = request_in line ≡ None
 
--- the words with which the cause begins
+-- the first words of the text for a fault
 abbrev pub cause_words : RequestFault → List ℕ
 cause_words (fault.Long most) = codes "it has more than " ++ decimal most ++ codes " bytes"
 cause_words fault.NotUtf8 = codes "it isn't UTF-8"
@@ -34,7 +34,7 @@ cause_words (fault.Bytes most) =
     codes "the bytes aren't two hexadecimal digits for each of at most " ++ decimal most ++ codes " bytes"
 cause_words (fault.Memory cause) = codes "out of memory"
 
--- A bad line is answered by the words for its fault, and a detail without a line feed. No step is made.
+-- A bad line is answered with the words for its fault, and a detail without a line feed. No step is made.
 abbrev pub IsBad : RequestFault → List ℕ → List Step → List Reply → Type 0
 IsBad why answer steps replies =
     (detail : List ℕ) × HasNoFeed detail × (answer ≡ codes "badline " ++ cause_words why ++ detail)

@@ -1,4 +1,4 @@
--- How a processor sets the length of a file, and what it is answered.
+-- How a processor sets the length of a file, and the answer to this request.
 use Rattle.std.specs.Prelude.{ℕ, ◌≡◌, ◌≢◌, ◌⊎◌, Bool, true, false, ⊤, List, [], ◌∷◌, ◌++◌}
 use Rattle.page_entry.specs.declared.refusal.Refusal.TheVariants.{Busy, NoFrame}
 use Rattle.machine.specs.declared.act.Act.TheVariants.{SetLength, Ack, Change, Resume, Flush}
@@ -9,17 +9,17 @@ use Rattle.machine.specs.declared.act.Step.{Step}
 use Rattle.session.specs.Ends.{MakesRoom}
 use Rattle.session.specs.Steps.{IsPaging}
 
--- that a change was begun
+-- whether a change was begun
 abbrev pub reports_begun : Reply → Bool
 reports_begun Begun = true
 reports_begun _ = false
 
--- that a step was refused
+-- whether a step was refused
 abbrev pub reports_refused : Reply → Bool
 reports_refused (Refused why) = true
 reports_refused _ = false
 
--- that a change was made
+-- whether a change was made
 abbrev pub reports_changed : Reply → Bool
 reports_changed Unmapped = true
 reports_changed Protected = true
@@ -29,24 +29,24 @@ reports_changed Kept = true
 reports_changed (Marked number) = true
 reports_changed _ = false
 
--- the steps of a change by processor p: each of these others stalls before it, and goes on after it
+-- the steps of a change by processor p: each of the other processors stalls before it, and resumes after it
 abbrev pub change_steps : ℕ → List ℕ → List Step
 change_steps p [] = record { p = p; act = Change } ∷ []
 change_steps p (other ∷ others) =
     record { p = other; act = Ack } ∷ (change_steps p others ++ record { p = other; act = Resume } ∷ [])
 
--- and their replies
+-- the replies to these steps
 abbrev pub change_replies : Reply → List ℕ → List Reply
 change_replies answer [] = answer ∷ []
 change_replies answer (other ∷ others) = Acked ∷ (change_replies answer others ++ Resumed ∷ [])
 
--- processors other than p
+-- All these processors differ from p.
 abbrev pub AreOthers : ℕ → List ℕ → Type 0
 AreOthers p [] = ⊤
 AreOthers p (other ∷ others) = (other ≢ p) × AreOthers p others
 
--- A change that processor p began was made, and answered so. Those that it interrupted stalled before it, and went on
--- after it.
+-- A change that processor p began is made, and `answer` is its reply. The interrupted processors stall before it, and
+-- resume after it.
 pub record AnswersChange (p : ℕ) (answer : Reply) (steps : List Step) (replies : List Reply) : Type 0 where
   pub made : reports_changed answer ≡ true
   pub others : List ℕ
@@ -54,56 +54,58 @@ pub record AnswersChange (p : ℕ) (answer : Reply) (steps : List Step) (replies
   pub steps_are : steps ≡ change_steps p others
   pub replies_are : replies ≡ change_replies answer others
 
--- the step by which processor p begins to set the length of a file, and its step of the write-outs
+-- the step with which processor p begins to set the length of a file, and its write-out step
 abbrev pub set_length_by : ℕ → ℕ → ℕ → Step
 set_length_by p file to = record { p = p; act = SetLength file to }
 
 abbrev pub flush_by : ℕ → Step
 flush_by p = record { p = p; act = Flush }
 
--- an attempt that is refused for a while: write-outs have to be done first, or too few frames are free
+-- whether an attempt is refused only for now: write-outs have to be done first, or too few frames are free
 abbrev pub reports_later : Reply → Bool
 reports_later (Refused Busy) = true
 reports_later (Refused NoFrame) = true
 reports_later _ = false
 
--- a step before a length's change is begun: an attempt that is refused for a while, or one that reads and stores
--- nothing
+-- A step before the change of the length is begun: an attempt that is refused only for now, or a step that loads and
+-- stores nothing.
 abbrev pub IsTry : ℕ → ℕ → ℕ → Step → Reply → Type 0
 IsTry p file to step reply =
     ((step ≡ set_length_by p file to) × (reports_later reply ≡ true)) ⊎ IsPaging p step reply
 
--- It is begun, and the answer is that of its change.
+-- After steps that satisfy `IsTry`, the change of the length is begun and made. `answer` is the reply to the change.
 abbrev pub ChangesLength : ℕ → ℕ → ℕ → Reply → List Step → List Reply → Type 0
 ChangesLength p file to answer (step ∷ steps) (reply ∷ replies) =
     (IsTry p file to step reply × ChangesLength p file to answer steps replies)
     ⊎ ((step ≡ set_length_by p file to) × (reply ≡ Begun) × AnswersChange p answer steps replies)
 ChangesLength p file to answer steps replies = ⊥
 
--- An attempt was busy, and no other one is made: the write-outs have no step left, and it is answered so; or the step
--- of the write-outs that would be made for it is refused, which is the answer.
+-- An attempt was busy, the next write-out step isn't made, and there is no further attempt. If no write-out step is
+-- left, the answer is `Busy`. If the write-out step is refused, its refusal is the answer.
 pub record EndsWaiting (p : ℕ) (answer : Reply) (steps : List Step) (replies : List Reply) : Type 0 where
   pub reply : Reply
   pub why : ((reply ≡ Nothing) × (answer ≡ Refused Busy)) ⊎ ((reply ≡ answer) × (reports_refused answer ≡ true))
   pub steps_are : steps ≡ flush_by p ∷ []
   pub replies_are : replies ≡ reply ∷ []
 
--- What comes after the last attempt, which was answered so, and why no other one is made: it is for good; or too few
--- frames are free, and none became free; or it is busy. There are `all` pages.
+-- The steps after the last attempt, and the reason why there is no further one. The attempt is refused for good, or too
+-- few frames are free and none becomes free, or it is busy. `reply` is the reply to the attempt, and there are `all`
+-- pages.
 abbrev pub IsLeft : ℕ → Reply → Reply → ℕ → List Step → List Reply → Type 0
 IsLeft p answer reply all steps replies =
     ((reply ≡ answer) × (reports_begun answer ≡ false) × (reports_later answer ≡ false) × (steps ≡ []) × (replies ≡ []))
     ⊎ ((reply ≡ Refused NoFrame) × (answer ≡ Refused NoFrame) × MakesRoom p false all steps replies)
     ⊎ ((reply ≡ Refused Busy) × EndsWaiting p answer steps replies)
 
--- It isn't begun, and the answer is that of the last attempt, or of the step of the write-outs that it waits for.
+-- The change of the length isn't begun. The answer is the reply to the last attempt, or to the write-out step that this
+-- attempt waits for.
 abbrev pub RefusesLength : ℕ → ℕ → ℕ → Reply → ℕ → List Step → List Reply → Type 0
 RefusesLength p file to answer all (step ∷ steps) (reply ∷ replies) =
     (IsTry p file to step reply × RefusesLength p file to answer all steps replies)
     ⊎ ((step ≡ set_length_by p file to) × IsLeft p answer reply all steps replies)
 RefusesLength p file to answer all steps replies = ⊥
 
--- Processor p set the length of a file, or was refused it, and this is the answer.
+-- Processor p sets the length of a file, or fails to set it, and this is the answer.
 abbrev pub AnswersLength : ℕ → ℕ → ℕ → Reply → ℕ → List Step → List Reply → Type 0
 AnswersLength p file to answer all steps replies =
     ChangesLength p file to answer steps replies ⊎ RefusesLength p file to answer all steps replies

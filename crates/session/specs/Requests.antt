@@ -1,4 +1,4 @@
--- What a line asks for: the grammar of requests.
+-- The grammar of requests.
 use Rattle.std.specs.Prelude.{ℕ, nat_le, List, [], ◌∷◌, length, if◌then◌else◌, codes}
 use Rattle.std.specs.Prelude.{Option, Some, None, is_some, option_map}
 use Rattle.std.specs.Result.{result_ok}
@@ -14,8 +14,8 @@ use Rattle.scripts.specs.Script.{step_of, shape_of}
 use Rattle.machine.specs.declared.act.Shape.{Shape}
 use Rattle.machine.specs.declared.act.Step.{Step}
 
--- what is asked for: steps; to load so many bytes from an address on; to store bytes from an address on; to commit; to
--- set the length of a file
+-- What a request asks for: steps, a load, a store, a commit, or a new length of a file. A load has an address and a
+-- number of bytes. A store has an address and its bytes.
 pub data Asked : Type 0 where
   asks_steps : List Step → Asked
   asks_load : ℕ → ℕ → ℕ → Asked
@@ -23,28 +23,28 @@ pub data Asked : Type 0 where
   asks_commit : ℕ → Asked
   asks_length : ℕ → ℕ → ℕ → Asked
 
--- how many bytes are loaded: at most 64 KiB
+-- the number of bytes to load, at most 64 KiB
 abbrev pub count_of : Data → Option ℕ
 count_of = whole_number 65536
 
--- two hexadecimal digits for each of at most 64 KiB
+-- the bytes in hexadecimal digits, two for each of at most 64 KiB
 abbrev pub digits_of : List ℕ → Option (List ℕ)
 digits_of digits = if nat_le (length digits) 131072 then result_ok (decode_of digits) else None
 
 abbrev pub bytes_in_digits : Data → Option (List ℕ)
 bytes_in_digits value = if_some (as_str value) digits_of
 
--- what a processor and two arguments ask for
+-- a request with a processor and two arguments
 abbrev pub with_two : (ℕ → Data → Data → Option Asked) → Data → List Data → Option Asked
 with_two what p (first ∷ second ∷ []) = if_some (byte_of p) (λ p. what p first second)
 with_two what p _ = None
 
--- an address and a count
+-- a load, with an address and a count
 abbrev pub load_of : Data → List Data → Option Asked
 load_of = with_two (λ p va count.
     if_some (long_of va) (λ va. if_some (count_of count) (λ count. Some (asks_load p va count))))
 
--- an address and the digits of bytes
+-- a store, with an address and the digits of the bytes
 abbrev pub store_of : Data → List Data → Option Asked
 store_of = with_two (λ p va digits.
     if_some (long_of va) (λ va. if_some (bytes_in_digits digits) (λ bytes. Some (asks_store p va bytes))))
@@ -53,7 +53,7 @@ abbrev pub commit_of : Data → List Data → Option Asked
 commit_of p [] = if_some (byte_of p) (λ p. Some (asks_commit p))
 commit_of p _ = None
 
--- a file and its new length in bytes
+-- a new length, with a file and the length in bytes
 abbrev pub set_length_of : Data → List Data → Option Asked
 set_length_of = with_two (λ p file length.
     if_some (short_of file) (λ file. if_some (long_of length) (λ length. Some (asks_length p file length))))
@@ -62,7 +62,7 @@ set_length_of = with_two (λ p file length.
 abbrev pub step_alone : Data → Option Asked
 step_alone value = option_map (λ step. asks_steps (step ∷ [])) (step_of value)
 
--- a processor, a name and arguments: a range, a commit, a length, or else a step
+-- a request with a name: a range, a commit or a length; any other name is that of a step
 abbrev pub named_request : Data → Option (List ℕ) → Data → List Data → Option Asked
 named_request value None p arguments = step_alone value
 named_request value (Some name) p arguments =
@@ -89,14 +89,14 @@ items_request value [] = None
 abbrev pub request_of : Data → Option Asked
 request_of value = if_some (as_array value) (λ items. items_request value (list_of items))
 
--- what a line asks for
+-- the request in a line, if it contains one
 abbrev pub request_in : List ℕ → Option Asked
 request_in line = if_some (read line) request_of
 
--- the shape that an object says, which has no other members
+-- the shape in an object that has no other members
 abbrev pub shape_said : Data → Option Shape
 shape_said value = if has_form Session value then shape_of value else None
 
--- the shape that the first line of a session asks for
+-- the shape in the first line of a session
 abbrev pub shape_in : List ℕ → Option Shape
 shape_in line = if_some (read line) shape_said

@@ -11,13 +11,13 @@ use Rattle.shootdown.specs.declared.proc_state.ProcState.TheVariants.{Active}
 use Rattle.shootdown.specs.Processors.{Processor, is_running, queue_drops}
 use Rattle.shootdown.specs.Shootdown.{ShootdownState, processor_at, state_of, current}
 
--- An entry may be used, now or later, where the processor's queue keeps it; and where its queue drops it, by a
--- processor that is running in the entry's space, until it carries the queue out. No other processor uses it.
+-- The processor may use a cached entry, now or later. Either its queue doesn't drop the entry, or it is running in the
+-- entry's space, and uses the entry until it carries the queue out.
 abbrev pub IsUsable : Processor → CachedEntry → Type 0
 IsUsable p e = (queue_drops p.queue e.pcid e.page ≡ false) ⊎ ((is_running p.state ≡ true) × (e.pcid ≡ p.space))
 
--- a cached entry is backed by the page's entry: the same frame, and the right to write and the dirty bit only where
--- that has them
+-- A cached entry is backed by the page's entry: both map the same frame. The cached entry has the right to write, or
+-- the dirty bit, only if the page's entry has it.
 pub record IsBackedBy (entry : Mapped) (e : CachedEntry) : Type 0 where
   pub same_frame : e.frame ≡ entry.frame
   pub writable : e.writable ≡ true → entry.writable ≡ true
@@ -26,14 +26,13 @@ pub record IsBackedBy (entry : Mapped) (e : CachedEntry) : Type 0 where
 abbrev pub Agrees : Spaces → CachedEntry → Type 0
 Agrees spaces e = (entry : Mapped) × (entry_at spaces e.pcid e.page ≡ Some entry) × IsBackedBy entry e
 
--- each processor's cached entries that may be used agree with the tables
+-- All cached entries that the processor may use agree with the page tables.
 abbrev pub IsCovered : Spaces → Processor → Type 0
 IsCovered spaces p = All (λ e. IsUsable p e → Agrees spaces e) p.tlb.entries
 
--- Rule: stale entry: No processor uses a cached entry that a change made stale: it drops what it was notified of first.
--- The processors and the page tables cohere. While a change is under way, what could become stale is dropped by the
--- queue of whoever may cache it, also what is cached only later; and no active processor that wasn't interrupted is in
--- a space that the change touches.
+-- Rule: stale entry: No processor uses a cached entry that a change made stale: it first carries out its invalidations.
+-- The processors and the page tables cohere. While a change is in progress, a processor's queue drops every affected
+-- entry that the processor may cache, now or later. No active processor is in a space that the change touches.
 pub record Coheres (spaces : Spaces) (s : ShootdownState) : Type 0 where
   pub covered : (p : ℕ) → p < length s.processors → IsCovered spaces (processor_at s p)
   pub warned : (lock : Lock) → s.lock ≡ Some lock → (p pcid page : ℕ) → p < length s.processors
@@ -42,12 +41,12 @@ pub record Coheres (spaces : Spaces) (s : ShootdownState) : Type 0 where
   pub away : (lock : Lock) → s.lock ≡ Some lock → (p : ℕ) → p < length s.processors
       → state_of s p ≡ Active → touches spaces lock.change (current s p) ≡ false
 
--- a call that keeps the tables keeps coherence
+-- A call that doesn't change the page tables keeps coherence.
 abbrev pub KeepsCoherence : ShootdownState → ShootdownState → Type 0
 KeepsCoherence old new = (spaces : Spaces) → Coheres spaces old → Coheres spaces new
 
--- Nobody uses what a change affects: no processor that runs is in a space that it touches, and no processor may use a
--- cached entry of an affected page.
+-- No processor uses what the change affects. No running processor is in a space that the change touches. No processor
+-- may use a cached entry of an affected page.
 pub record IsUnused (spaces : Spaces) (change : Change) (s : ShootdownState) : Type 0 where
   pub away : (p : ℕ) → p < length s.processors → is_running (state_of s p) ≡ true
       → touches spaces change (current s p) ≡ false
@@ -55,12 +54,12 @@ pub record IsUnused (spaces : Spaces) (change : Change) (s : ShootdownState) : T
       → All (λ e. affects spaces change e.pcid e.page ≡ true → IsUsable (processor_at s p) e → ⊥)
       (processor_at s p).tlb.entries
 
--- no processor may use a cached entry of a PCID
+-- No processor may use a cached entry of this PCID.
 abbrev pub IsForgotten : ShootdownState → ℕ → Type 0
 IsForgotten s pcid = (p : ℕ) → p < length s.processors
     → All (λ e. e.pcid ≡ pcid → IsUsable (processor_at s p) e → ⊥) (processor_at s p).tlb.entries
 
--- after it a change affects and touches nothing that it didn't before
+-- With the new spaces, the change affects and touches nothing that it didn't affect or touch before.
 pub record IsNoWider (change : Change) (old new : Spaces) : Type 0 where
   pub affected : (pcid page : ℕ) → affects new change pcid page ≡ true → affects old change pcid page ≡ true
   pub touched : (pcid : ℕ) → touches new change pcid ≡ true → touches old change pcid ≡ true

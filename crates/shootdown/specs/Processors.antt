@@ -1,5 +1,5 @@
--- One processor: its phase in a shootdown, its current space, its TLB, the invalidations that it still has to carry
--- out, and the PCIDs of which it may cache entries (Black, Rashid, Golub, Hill and Baron 1989; Intel SDM volume 3,
+-- One processor: its phase in a shootdown, its current space, its TLB and its queue of invalidations. For each PCID it
+-- has a flag: whether it may cache entries of this PCID (Black, Rashid, Golub, Hill and Baron 1989; Intel SDM volume 3,
 -- "Caching Translation Information").
 use Rattle.std.specs.Prelude.{ℕ, ◌≡◌, ◌<◌, ◌≤◌, ◌+◌, ◌==◌, ◌&&◌, ◌||◌, not, nat_lt, Bool, true, false, List}
 use Rattle.std.specs.Prelude.{[], ◌∷◌, ◌++◌, length, fold, replicate, slice_set, slice_index_or, if◌then◌else◌}
@@ -16,21 +16,21 @@ pub record Processor : Type 0 where
   -- the PCID of its current space
   pub space : ℕ
   pub tlb : TlbState
-  -- what it still has to invalidate, in order
+  -- the invalidations that it still has to carry out, in order
   pub queue : List Invpcid
-  -- for each PCID, whether it may cache entries of it
+  -- for each PCID, whether the processor may cache its entries
   pub may_cache : List Bool
 
--- how many invalidations a queue holds
+-- the greatest number of invalidations in a queue
 abbrev pub queue_len : ℕ
 queue_len = 8
 
--- PCIDs have 12 bits
+-- the number of PCIDs, which have 12 bits
 abbrev pub pcids : ℕ
 pcids = 4096
 
--- the flags of a processor that may cache entries of PCID 0 alone, under a name of their own so that nobody computes
--- all of them
+-- The flags of a processor that may cache only entries of PCID 0. This is a definition of its own, so that proofs never
+-- compute all of them.
 unfoldable pub first_flags : List Bool
 first_flags = slice_set (replicate pcids false) 0 true
 
@@ -44,7 +44,7 @@ fresh_processor tlb = record {
   may_cache = first_flags;
 }
 
--- whether it goes on with loads and stores
+-- whether a processor in this state executes loads and stores
 abbrev pub is_running : ProcState → Bool
 is_running Active = true
 is_running Interrupted = true
@@ -62,17 +62,17 @@ abbrev pub drops_page : Invpcid → ℕ → ℕ → Bool
 drops_page (IndividualAddress pcid page) q other = q == pcid && other == page
 drops_page a q other = drops_pcid a q
 
--- whether one of these invalidations drops it
+-- whether one of these invalidations drops the entry of a page of a PCID
 abbrev pub queue_drops : List Invpcid → ℕ → ℕ → Bool
 queue_drops queue pcid page = list_any (λ a. drops_page a pcid page) queue
 
--- of these flags, counted from PCID i on: those stay that pass
+-- the flags of the PCIDs from i on; a set flag stays set only if its PCID passes
 abbrev pub flags_kept : (ℕ → Bool) → ℕ → List Bool → List Bool
 flags_kept passes i [] = []
 flags_kept passes i (flag ∷ flags) = (flag && passes i) ∷ flags_kept passes (i + 1) flags
 
--- The processor carries out its queue: what the queue drops is gone, and it caches nothing any more of a PCID that was
--- dropped whole, unless that is its current space.
+-- The processor carries out its queue, which drops entries from the TLB. If the queue drops all entries of a PCID, the
+-- flag of this PCID is cleared, unless it is the PCID of the current space.
 abbrev pub drained : Processor → Processor
 drained p = record p {
   tlb = keep_entries (λ e. not (queue_drops p.queue e.pcid e.page)) p.tlb;
@@ -80,31 +80,33 @@ drained p = record p {
   may_cache = flags_kept (λ pcid. pcid == p.space || not (list_any (λ a. drops_pcid a pcid) p.queue)) 0 p.may_cache;
 }
 
--- Rule: full queue: The ninth invalidation in a queue makes one of all that a processor caches.
--- an invalidation more in a queue; the ninth makes one of all
+-- Rule: full queue: A ninth invalidation replaces the queue with one that drops all that the processor caches.
+-- the queue with one more invalidation
 abbrev pub queued : List Invpcid → Invpcid → List Invpcid
 queued queue a = if nat_lt (length queue) queue_len then queue ++ a ∷ [] else AllContexts ∷ []
 
--- whether the processor may cache what an invalidation drops
+-- whether the processor may cache entries that the invalidation drops
 abbrev pub is_concerned : Processor → Invpcid → Bool
 is_concerned p (IndividualAddress pcid page) = slice_index_or p.may_cache pcid false
 is_concerned p (SingleContext pcid) = slice_index_or p.may_cache pcid false
 is_concerned p AllContextsAndGlobals = true
 is_concerned p AllContexts = true
 
--- the processor is notified of an invalidation: it goes to whoever may cache what it drops, whatever space is current
+-- The processor is notified of an invalidation if it may cache entries that the invalidation drops, even if another
+-- space is current.
 abbrev pub notified : Processor → Invpcid → Processor
 notified p a = if is_concerned p a then record p { queue = queued p.queue a } else p
 
--- it is notified of several, one after the other
+-- The processor is notified of several invalidations, one after the other.
 abbrev pub notified_all : Processor → List Invpcid → Processor
 notified_all p actions = fold notified p actions
 
--- it carries out its queue and goes on
+-- The processor carries out its queue and becomes active.
 abbrev pub woken : Processor → Processor
 woken p = record (drained p) { state = Active }
 
--- it loads another PCID, whose entries it keeps or drops, and which it may cache from then on
+-- The processor loads another PCID, and keeps or drops the cached entries of this PCID. From then on it may cache such
+-- entries.
 abbrev pub loaded : Processor → ℕ → Bool → Processor
 loaded p pcid keep = record p {
   space = pcid;
@@ -112,12 +114,12 @@ loaded p pcid keep = record p {
   may_cache = slice_set p.may_cache pcid true;
 }
 
--- it carries out its queue and loads another PCID
+-- The processor carries out its queue and loads another PCID.
 abbrev pub switched : Processor → ℕ → Bool → Processor
 switched p pcid keep = loaded (drained p) pcid keep
 
--- What every processor keeps: its TLB is one; its queue isn't overfull; PCIDs have 12 bits; the flag of its current
--- space's PCID is set, and that of each entry that it caches, also while its queue is to drop the entry.
+-- An invariant of each processor. Its TLB is well-formed, and its queue isn't too long. PCIDs have 12 bits. The flag of
+-- its current space's PCID is set. So is the flag of each cached entry's PCID, even if the queue will drop the entry.
 pub record IsProcessor (p : Processor) : Type 0 where
   pub tlb : IsTlb p.tlb
   pub short_queue : length p.queue ≤ queue_len

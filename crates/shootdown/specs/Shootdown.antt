@@ -1,6 +1,6 @@
--- The processors and the machine's one lock, and how a change of mappings goes through the four phases of a shootdown:
--- the initiator takes the lock, queues invalidations and interrupts; the others stall; the change is made; they go on
--- (Black, Rashid, Golub, Hill and Baron 1989).
+-- The processors, the machine's one lock, and the four phases of a shootdown, which changes mappings. The initiator
+-- takes the lock, queues invalidations and interrupts the other processors. The others stall. The change is made. The
+-- others resume (Black, Rashid, Golub, Hill and Baron 1989).
 use Rattle.std.specs.Prelude.{ℕ, ◌≡◌, ◌≢◌, ◌↔◌, ◌<◌, ◌≤◌, ◌+◌, ◌==◌, nat_lt, nat_le, Bool, true}
 use Rattle.std.specs.Prelude.{false, is_some, not, List, [], ◌∷◌, length, map, replicate, slice_set}
 use Rattle.std.specs.Prelude.{slice_index_or, count_by, Option, Some, None, if◌then◌else◌}
@@ -23,12 +23,12 @@ use Rattle.shootdown.specs.declared.proc_state.ProcState.TheVariants.{Active, In
 use Rattle.shootdown.specs.Processors.{Processor, fresh_processor, is_running, notified}
 use Rattle.shootdown.specs.Processors.{notified_all, woken, switched, IsProcessor}
 
--- the processors, and who holds the lock, if anybody, and for which change
+-- the processors, and the lock; if the lock is held, its holder and the change for which it is held
 pub record ShootdownState : Type 0 where
   pub processors : List Processor
   pub lock : Option Lock
 
--- at boot
+-- the state at boot
 abbrev pub fresh_shootdown : ℕ → ℕ → ShootdownState
 fresh_shootdown cpus tlb = record { processors = replicate cpus (fresh_processor tlb); lock = None }
 
@@ -45,7 +45,7 @@ current s p = (processor_at s p).space
 abbrev pub with_processor : ShootdownState → ℕ → Processor → ShootdownState
 with_processor s p processor = record s { processors = slice_set s.processors p processor }
 
--- the TLB of a processor, and with another TLB in its place
+-- the TLB of a processor, and the state with another TLB for this processor
 abbrev pub tlb_of : ShootdownState → ℕ → TlbState
 tlb_of s p = (processor_at s p).tlb
 
@@ -56,18 +56,17 @@ with_tlb s p tlb = with_processor s p (record (processor_at s p) { tlb = tlb })
 abbrev pub is_there : ShootdownState → ℕ → Bool
 is_there s p = nat_lt p (length s.processors)
 
--- why an act of a processor is refused before anything else is looked at: there is none with this number, or it isn't
--- active
+-- The refusal that is checked before any other: no processor has this number, or it doesn't execute loads and stores.
 abbrev pub not_running : ShootdownState → ℕ → Option Refusal
 not_running s p =
     if not (is_there s p) then Some refusals.Einval
     else (if is_running (state_of s p) then None else Some refusals.Stalled)
 
--- the same, or the lock is held
+-- the same refusal, or the one for a lock that is held
 abbrev pub not_free : ShootdownState → ℕ → Option Refusal
 not_free s p = option_or (not_running s p) (if is_some s.lock then Some refusals.Locked else None)
 
--- how many processors are interrupted and haven't stalled yet
+-- which processors are interrupted and haven't stalled yet, and their number
 abbrev pub is_interrupted : ProcState → Bool
 is_interrupted Interrupted = true
 is_interrupted _ = false
@@ -79,15 +78,15 @@ interrupted s = count_by (λ p. is_interrupted p.state) s.processors
 abbrev pub is_current : ShootdownState → ℕ → Bool
 is_current s pcid = list_any (λ p. p.space == pcid) s.processors
 
--- ---- what a change sends
+-- ---- the invalidations of a change
 
--- one invalidation a page for up to 4 pages, else the whole PCID
+-- one invalidation per page for up to 4 pages, otherwise one for the whole PCID
 abbrev pub range_actions : ℕ → PageRange → List Invpcid
 range_actions pcid range =
     if nat_le range.count 4 then map (IndividualAddress pcid) (range_with_len range.first range.count)
     else SingleContext pcid ∷ []
 
--- one for each present entry of a page of a file, by PCID and by page
+-- one invalidation for each present entry of a page of a file, in the order of PCIDs and then of pages
 abbrev pub entry_actions : Spaces → FilePage → List Invpcid
 entry_actions spaces owner =
     map (λ entry. IndividualAddress entry.0 entry.1) (entries_of spaces owner)
@@ -101,8 +100,8 @@ actions_of spaces Checkpoint = AllContexts ∷ []
 
 -- ---- the phases
 
--- the state of a processor other than the initiator, when a change begins that touches its space or doesn't: only an
--- active one is interrupted
+-- The state of a processor other than the initiator when a change begins. Only an active processor is interrupted, and
+-- only if the change touches its space.
 abbrev pub state_when_begun : Bool → ProcState → ProcState
 state_when_begun true Active = Interrupted
 state_when_begun touched state = state
@@ -123,15 +122,15 @@ begun s p spaces change = record {
   lock = Some (record { holder = p; change = change });
 }
 
--- an interrupted processor stalls
+-- An interrupted processor stalls.
 abbrev pub stalled : ShootdownState → ℕ → ShootdownState
 stalled s p = with_processor s p (record (processor_at s p) { state = Stalled })
 
--- the initiator carries out its own queue and goes on, and the lock is free
+-- The initiator carries out its own queue and becomes active. The lock is free.
 abbrev pub finished : ShootdownState → ℕ → ShootdownState
 finished s p = record (with_processor s p (woken (processor_at s p))) { lock = None }
 
--- a stalled or an idle processor carries out its queue and goes on
+-- A stalled or idle processor carries out its queue and becomes active.
 abbrev pub resumed : ShootdownState → ℕ → ShootdownState
 resumed s p = with_processor s p (woken (processor_at s p))
 
@@ -141,12 +140,12 @@ idled s p = with_processor s p (record (processor_at s p) { state = Idle })
 abbrev pub switched_to : ShootdownState → ℕ → ℕ → Bool → ShootdownState
 switched_to s p pcid keep = with_processor s p (switched (processor_at s p) pcid keep)
 
--- a space is destroyed: whoever may cache its PCID is notified to drop it
+-- A space is destroyed. Each processor that may cache entries of its PCID is notified to drop them.
 abbrev pub destroyed : ShootdownState → ℕ → ShootdownState
 destroyed s pcid = record s { processors = map (λ p. notified p (SingleContext pcid)) s.processors }
 
--- What every such state keeps: 1 to 16 processors; the lock's holder, and no other, initiates; nobody is interrupted
--- while the lock is free.
+-- An invariant of the state. There are 1 to 16 processors. The lock's holder is the only processor that initiates a
+-- change. While the lock is free, no processor initiates or is interrupted.
 pub record IsShootdown (s : ShootdownState) : Type 0 where
   pub some : 0 < length s.processors
   pub few : length s.processors ≤ 16

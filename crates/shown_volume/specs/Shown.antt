@@ -1,4 +1,4 @@
--- A volume of which only the blocks that were written are kept, and what it recovers to.
+-- A volume for which only the written blocks are kept, and what it recovers to.
 use Rattle.std.specs.Prelude.{◌≡◌, ◌≢◌, ◌⊎◌, ℕ, ◌+◌, ◌*◌, ◌<◌, List, [], ◌∷◌, length, Some, false, slice_index}
 use Rattle.std.specs.List.{Contains}
 use Rattle.device.specs.Device.{written}
@@ -11,18 +11,18 @@ use Rattle.kept_blocks.specs.Blocks.{Blocks, bytes_in}
 use Rattle.journal.specs.Recovered.{RecoversBy}
 use Rattle.journal.specs.WriteOut.{IsBatch}
 
--- where it has its parts, the blocks that are kept, and the batches of its open journals, the newest first
+-- the geometry of the volume, the kept blocks, and the batches of its open journals, the newest first
 pub record ShownValue : Type 0 where
   pub geometry : GeometryValue
   pub blocks : Blocks
   pub opened : List Batch
 
--- the block is no gate
+-- The block is no gate.
 abbrev pub IsNoGate : GeometryValue → ℕ → Type 0
 IsNoGate g b = (j : ℕ) → j < journals_of g.layout → b ≢ gate_block g.slots j
 
--- These bytes are those of the volume: its open journals have these batches, the gates of the others are zeros, and a
--- block that is kept is what they have there.
+-- The bytes are those of the volume. Its open journals contain these batches, and the gates of the other journals are
+-- zero. Each kept block is no gate, and has the same bytes in the volume.
 pub record HasShown (t : SuperValue) (s : ShownValue) (bytes : List ℕ) : Type 0 where
   pub geometry : s.geometry ≡ geometry_of t
   pub long : length bytes ≡ 4096 * block_count t
@@ -32,36 +32,35 @@ pub record HasShown (t : SuperValue) (s : ShownValue) (bytes : List ℕ) : Type 
   pub kept : (b : ℕ) (block : List ℕ) → bytes_in s.blocks b ≡ Some block
       → IsNoGate s.geometry b × (block_at bytes b ≡ block)
 
--- new bytes are those of the volume after a call, and recover to the same contents
+-- After a call, the changed bytes are those of the volume, and recover to the same contents.
 pub record StaysShown (old new : ShownValue) (change : List ℕ → List ℕ) : Type 0 where
   pub shown : (t : SuperValue) (bytes : List ℕ) → HasShown t old bytes → HasShown t new (change bytes)
   pub recovers : (t : SuperValue) (bytes : List ℕ) (contents : ℕ → List ℕ) → HasShown t old bytes
       → RecoversBy t old.opened contents bytes → RecoversBy t new.opened contents (change bytes)
 
--- one of these batches has the home block
+-- One of these batches has a record of the home block.
 abbrev pub HasHomeBlock : List Batch → ℕ → Type 0
 HasHomeBlock [] b = ⊥
 HasHomeBlock (batch ∷ older) b = Contains batch.homes b ⊎ HasHomeBlock older b
 
--- the block belongs to the descriptor or to a record slot of this journal
+-- The block belongs to this journal's descriptor, or is one of its record slots.
 abbrev pub IsOfJournal : GeometryValue → ℕ → ℕ → Type 0
 IsOfJournal g j b =
     ((i : ℕ) × (i < descriptor_blocks g.slots) × (b ≡ descriptor_block g.slots j + i))
     ⊎ ((i : ℕ) × (i < g.slots) × (b ≡ record_block g.slots j i))
 
--- the block belongs to no journal's descriptor and to no record slot
+-- The block belongs to no journal's descriptor, and is no record slot.
 abbrev pub IsOfNoJournal : GeometryValue → ℕ → Type 0
 IsOfNoJournal g b = (j : ℕ) → j < journals_of g.layout → IsOfJournal g j b → ⊥
 
--- Recovery doesn't read the block: it belongs to a journal that is closed, or it is a home block of which an open
--- journal has a record.
+-- Recovery doesn't read the block. It belongs to a closed journal, or an open journal has a record of it.
 abbrev pub IsAdmitted : ShownValue → ℕ → Type 0
 IsAdmitted s b =
     ((j : ℕ) × (j < journals_of s.geometry.layout) × (has_journal s.opened j ≡ false) × IsOfJournal s.geometry j b)
     ⊎ HasHomeBlock s.opened b
 
--- The journal of the batch is closed, and the batch is newer than those of the open journals. The kept blocks have its
--- descriptor.
+-- The journal of the batch is closed, and the batch is newer than those of the open journals. The kept blocks contain
+-- its descriptor.
 pub record MayOpen (s : ShownValue) (batch : Batch) : Type 0 where
   pub is_batch : IsBatch s.geometry batch
   pub newer : IsNewer batch s.opened
@@ -70,13 +69,14 @@ pub record MayOpen (s : ShownValue) (batch : Batch) : Type 0 where
       → bytes_in s.blocks (descriptor_block s.geometry.slots batch.journal + i)
       ≡ Some (block_at (descriptor_text s.geometry.slots (record { mark = batch.mark; homes = batch.homes })) i)
 
--- the contents with the records of a batch, which are kept
+-- The contents `new` are `old` with the records of the batch. The records are kept.
 pub record HasRecords (s : ShownValue) (batch : Batch) (old new : ℕ → List ℕ) : Type 0 where
   pub records : (i : ℕ) → i < length batch.homes
       → bytes_in s.blocks (record_block s.geometry.slots batch.journal i) ≡ Some (new (slice_index batch.homes i))
   pub others : (b : ℕ) → (Contains batch.homes b → ⊥) → new b ≡ old b
 
--- after the gate of a batch was opened, new bytes are those of the volume, and recover to the contents with its records
+-- After the batch's gate is opened, the changed bytes are those of the volume. They recover to the contents with the
+-- batch's records.
 pub record OpensShown (old : ShownValue) (batch : Batch) (new : ShownValue) : Type 0 where
   pub shown : (t : SuperValue) (bytes : List ℕ) → HasShown t old bytes
       → HasShown t new (written bytes (4096 * gate_block old.geometry.slots batch.journal) (0xA7 ∷ []))

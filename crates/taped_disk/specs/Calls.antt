@@ -1,4 +1,4 @@
--- The calls of a device.
+-- The calls to a device.
 use Rattle.std.specs.Prelude.{◌≡◌, ◌↔◌, ℕ, ◌+◌, ◌-◌, ◌^◌, ◌<◌, ◌≤◌, List, [], ◌∷◌, ◌++◌, codes, length}
 use Rattle.std.specs.Prelude.{Result, IsOk, IsErr}
 use Rattle.std.specs.Fmt.{decimal}
@@ -6,7 +6,7 @@ use Rattle.device.specs.declared.device.Device.{Ghosts}
 use Rattle.taped_disk.specs.declared.call.Call.{Call}
 use Rattle.taped_disk.specs.declared.call.Call.TheVariants.{Read, Write, Sync}
 
--- a read of so many bytes at an offset, a write of these bytes at an offset, or a sync
+-- a read of a number of bytes at an offset, a write of bytes at an offset, or a sync
 pub data TapedCall : Type 0 where
   read : ℕ → ℕ → TapedCall
   write : ℕ → List ℕ → TapedCall
@@ -21,13 +21,14 @@ abbrev pub taped_calls : List Call → List TapedCall
 taped_calls [] = []
 taped_calls (call ∷ calls) = taped_call call ∷ taped_calls calls
 
--- what a call is printed as: its name, and the offset and the number of bytes in decimal digits
+-- the printed form of a call: its name, the offset, and the number of bytes, in decimal digits
 abbrev pub words_of : TapedCall → List ℕ
 words_of (read at count) = codes "read " ++ decimal at ++ codes " " ++ decimal count
 words_of (write at bytes) = codes "write " ++ decimal at ++ codes " " ++ decimal (length bytes)
 words_of sync = codes "sync"
 
--- the disk below was called: it counts the call, and a fault where it failed, and is as long and as honest as before
+-- The disk below was called once. It counts the call, and a fault if the call failed. Both counters stop at 2 ^ 64 - 1.
+-- Its length, its honesty and the calls that a host has made don't change.
 pub record HasCalled {D T E : Type 0} (disk : Ghosts D) (old new : D) (result : Result T E) : Type 0 where
   pub honest : disk.is_honest new ↔ disk.is_honest old
   pub len : length (disk.seen new) ≡ length (disk.seen old)

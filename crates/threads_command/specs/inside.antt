@@ -1,2 +1,2 @@
--- What ties private code to the definitions that its clauses name.
+-- Definitions that connect private code with the definitions in its contracts.
 pub mod Tracing

@@ -1,4 +1,5 @@
--- Traces: a first line with the shape of the machine and the room of the trace, and a line for each entry.
+-- Traces. The first line contains the shape of the machine and the room of the trace. Each further line contains an
+-- entry.
 use Rattle.std.specs.Prelude.{ℕ, List, [], ◌∷◌, if◌then◌else◌, codes, Option, Some, None}
 use Rattle.std.specs.Str.Lines.{lines}
 use Rattle.serde_json.specs.Data.{Data, object, number, unsigned, member, no_members}
@@ -11,7 +12,7 @@ use Rattle.scripts.specs.declared.form.Form.TheVariants.{Trace}
 use Rattle.machine.specs.declared.act.Shape.{Shape}
 use Rattle.machine.specs.declared.act.Step.{Step}
 
--- the shape and the room: an object with the members copies, cpus, frames, tlb and trace, and no others
+-- the shape and the room, in an object with the members copies, cpus, frames, tlb and trace, and no others
 abbrev pub shape_line_of : Data → Option (Shape × ℕ)
 shape_line_of value = if has_form Trace value
     then if_some (shape_of value) (λ shape. if_some (size_of (codes "trace") value) (λ room. Some (shape, room)))
@@ -40,12 +41,12 @@ entry_of value = if_some (as_array value) (λ items. items_entry (list_of items)
 abbrev pub entry_line : List ℕ → Option (Step × List ℕ)
 entry_line text = if_some (read text) entry_of
 
--- the shape, the room and the entries of lines
+-- the shape, the room and the entries in these lines
 abbrev pub trace_of_lines : List (List ℕ) → Option (Shape × ℕ × List (Step × List ℕ))
 trace_of_lines [] = None
 trace_of_lines (first ∷ rest) = if_some (shape_line first)
     (λ head. if_some (all_of entry_line rest) (λ entries. Some (head.0, head.1, entries)))
 
--- the same of a trace's text
+-- the shape, the room and the entries in a trace's text
 abbrev pub trace_in : List ℕ → Option (Shape × ℕ × List (Step × List ℕ))
 trace_in text = trace_of_lines (lines text)

@@ -1,3 +1,3 @@
--- What lines are written as.
+-- The values from which the lines of a trace are written.
 pub mod Written
 pub mod Words

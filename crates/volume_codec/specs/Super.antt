@@ -6,22 +6,22 @@ use Rattle.volume_codec.specs.Layout.{GeometryValue, number_of, magic_of, length
 use Rattle.volume_codec.specs.Files.{TableFile, AskedFile}
 use Rattle.volume_codec.specs.Text.{number_text, zeros, padded}
 
--- what a super block says: the layout, the files in order, and the record slots of each journal
+-- the content of a super block: the layout, the files in order, and the number of record slots of each journal
 pub record SuperValue : Type 0 where
   pub layout : Layout
   pub files : List TableFile
   pub slots : ℕ
 
--- the blocks that n bytes take
+-- the number of blocks that n bytes need
 abbrev pub pages_of : ℕ → ℕ
 pages_of n = (n + 4095) / 4096
 
--- the blocks that these files take
+-- the number of blocks that these files need
 abbrev pub total_pages : List TableFile → ℕ
 total_pages [] = 0
 total_pages (f ∷ fs) = pages_of f.capacity + total_pages fs
 
--- the first home block of file i: files lie one after another, in the table's order
+-- The first home block of file i. The files follow one another, in the table's order.
 abbrev pub first_home_of : SuperValue → ℕ → ℕ
 first_home_of v i = first_file_home v.layout v.slots + total_pages (take i v.files)
 
@@ -37,16 +37,16 @@ capacities_in v = map (λ f. f.capacity) v.files
 abbrev pub block_count : SuperValue → ℕ
 block_count v = first_file_home v.layout v.slots + total_pages v.files
 
--- where the volume has its parts
+-- the geometry of the volume
 abbrev pub geometry_of : SuperValue → GeometryValue
 geometry_of v = record { layout = v.layout; slots = v.slots; blocks = block_count v }
 
--- the 48 bytes of a file whose first home block is this one
+-- the 48 bytes of the entry for a file whose first home block is `home`
 abbrev pub entry_text : ℕ → TableFile → List ℕ
 entry_text home f =
     padded 32 f.name ++ number_text 8 f.capacity ++ number_text 4 home ++ number_text 4 (pages_of f.capacity)
 
--- the entries of these files, whose home blocks begin here
+-- the entries for these files, whose home blocks begin at block `home`
 abbrev pub entries_text : ℕ → List TableFile → List ℕ
 entries_text home [] = []
 entries_text home (f ∷ fs) = entry_text home f ++ entries_text (home + pages_of f.capacity) fs
@@ -57,32 +57,32 @@ super_head v =
     magic_of v.layout ++ number_text 4 (length v.files) ++ number_text 4 v.slots
     ++ number_text 4 (block_count v) ++ zeros 12
 
--- the one spelling of a value, in 4,096 bytes
+-- the only encoding of a value, in 4,096 bytes
 abbrev pub super_text : SuperValue → List ℕ
 super_text v = padded 4096 (super_head v ++ entries_text (first_file_home v.layout v.slots) v.files)
 
--- a byte of a name is a printable ASCII character other than the space
+-- The byte is a printable ASCII character other than the space.
 abbrev pub IsNameByte : ℕ → Type 0
 IsNameByte b = (0x21 ≤ b) × (b ≤ 0x7E)
 
--- a name has 1 to 32 bytes
+-- A name has 1 to 32 bytes, all of them printable and none of them a space.
 pub record IsName (name : List ℕ) : Type 0 where
   pub some : 0 < length name
   pub short : length name ≤ 32
   pub printable : AllByRecursion IsNameByte name
 
--- a file has a name and room for at least one byte
+-- A file of the table has a valid name, and a capacity of at least one byte.
 pub record IsTableFile (f : TableFile) : Type 0 where
   pub named : IsName f.name
   pub some : 0 < f.capacity
 
--- no two of these names are equal
+-- No two of these names are equal.
 abbrev pub AreDistinct : List (List ℕ) → Type 0
 AreDistinct [] = Unit {0}
 AreDistinct (name ∷ names) = AllByRecursion (λ other. other ≢ name) names × AreDistinct names
 
--- the rules of a super block's value: 1 to 64 files of distinct names, slots for the lengths and a page at least, up to
--- the layout's most, below 2^32 blocks
+-- The rules for the content of a super block. There are 1 to 64 files with distinct names. A journal has slots for the
+-- lengths and for at least one page, and at most the layout's maximum. The volume has fewer than 2 ^ 32 blocks.
 pub record Fits (v : SuperValue) : Type 0 where
   pub some_files : 0 < length v.files
   pub few_files : length v.files ≤ 64
@@ -92,17 +92,17 @@ pub record Fits (v : SuperValue) : Type 0 where
   pub few_slots : v.slots ≤ max_slots v.layout
   pub few_blocks : block_count v < 2 ^ 32
 
--- the grammar of super blocks: this block says this value
+-- The grammar of super blocks: the block is the encoding of this value.
 pub record IsSuper (v : SuperValue) (block : List ℕ) : Type 0 where
   pub fits : Fits v
   pub spelled : block ≡ super_text v
 
--- a file may have this length in a layout: it is at most the capacity, and the capacity itself where no block holds
--- lengths
+-- A file may have this length in the layout. It is at most the capacity. In a layout without a lengths block, it equals
+-- the capacity.
 abbrev pub IsLengthIn : Layout → ℕ → ℕ → Type 0
 IsLengthIn layout n capacity = (n ≤ capacity) × (lengths_blocks layout ≡ 0 → n ≡ capacity)
 
--- the table that is asked for by the number of its layout, its files and its slots
+-- The table is the one requested by the layout's number, the files and the number of slots.
 pub record IsAsked (layout : ℕ) (files : List AskedFile) (slots : ℕ) (v : SuperValue) : Type 0 where
   pub layout_is : number_of v.layout ≡ layout
   pub files_are : v.files ≡ map (λ f. record { name = f.name; capacity = f.capacity }) files

@@ -1,4 +1,4 @@
--- How numbers and unused bytes are spelled on a volume.
+-- The encoding of numbers and unused bytes on a volume.
 use Rattle.std.specs.Prelude.{ℕ, zero, suc, ◌-◌, List, [], ◌∷◌, ◌++◌, length, drop, replicate}
 use Rattle.byteorder.specs.Endian.{big_bytes, big_number}
 
@@ -10,7 +10,7 @@ number_text n x = big_bytes n x
 unfoldable pub number_in : ℕ → List ℕ → ℕ
 number_in n bytes = big_number n bytes
 
--- the numbers of n bytes each, so many of them
+-- the first `count` numbers of n bytes each
 abbrev pub numbers_in : ℕ → ℕ → List ℕ → List ℕ
 numbers_in n zero bytes = []
 numbers_in n (suc count) bytes = number_in n bytes ∷ numbers_in n count (drop n bytes)
@@ -19,6 +19,6 @@ numbers_in n (suc count) bytes = number_in n bytes ∷ numbers_in n count (drop 
 unfoldable pub zeros : ℕ → List ℕ
 zeros n = replicate n 0
 
--- these bytes, and zeros up to n bytes
+-- these bytes, followed by zeros up to n bytes
 abbrev pub padded : ℕ → List ℕ → List ℕ
 padded n bytes = bytes ++ zeros (n - length bytes)

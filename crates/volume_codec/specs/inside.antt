@@ -1,3 +1,3 @@
--- What ties the private code of this crate to its definitions; no public contract names it.
+-- Definitions that connect the private code of this crate to its public definitions. No public contract names them.
 pub mod Reading
 pub mod Tables

@@ -1,4 +1,4 @@
--- The text of a dump: of each file its name and length, and its rows of 16 bytes that aren't all zeros.
+-- The text of a dump: each file's name and length, and its rows of 16 bytes. Rows of zeros only are left out.
 use Rattle.std.specs.Prelude.{ℕ, ◌-◌, ◌^◌, ◌/◌, ◌%◌, List, [], ◌∷◌, ◌++◌, false}
 use Rattle.std.specs.List.{flat_map}
 use Rattle.std.specs.Fmt.{decimal, digits, digit_glyph, padded_integral, format_spec}
@@ -9,15 +9,15 @@ use Rattle.file_rows.specs.Rows.{files_listing}
 abbrev pub byte_text : ℕ → List ℕ
 byte_text byte = 32 ∷ digit_glyph false (byte / 16) ∷ digit_glyph false (byte % 16) ∷ []
 
--- an offset in hexadecimal digits, at least 12
+-- an offset in at least 12 hexadecimal digits
 abbrev pub offset_text : ℕ → List ℕ
 offset_text at = padded_integral (format_spec 32 0 4 12 (2 ^ 64 - 1)) false [] (digits 16 false at)
 
--- an offset and bytes
+-- an offset, and the bytes of a row
 abbrev pub row_text : ℕ → List ℕ → List ℕ
 row_text at bytes = offset_text at ++ flat_map byte_text bytes
 
--- a row: its line
+-- the line of a row
 abbrev pub row_line : ℕ → List ℕ → List ℕ
 row_line at bytes = row_text at bytes ++ 10 ∷ []
 
@@ -25,6 +25,6 @@ row_line at bytes = row_text at bytes ++ 10 ∷ []
 abbrev pub head_line : List ℕ → ℕ → List ℕ
 head_line name n = name ++ 32 ∷ decimal n ++ 10 ∷ []
 
--- the files in their order: of each its head, and its rows that aren't all zeros
+-- the files in order: the head of each, and its rows that aren't all zeros
 abbrev pub dump_text : List File → List ℕ
 dump_text files = files_listing head_line row_line files

@@ -1,18 +1,18 @@
--- How the numbers of a list are kept in chunks of 1,024, each full but the last one that isn't empty.
+-- How a list keeps its numbers in chunks of 1,024. Each chunk is full, except the last that isn't empty.
 use Rattle.std.specs.Prelude.{◌≡◌, ◌≢◌, ◌+◌, ◌-◌, ◌*◌, ◌<◌, ◌≤◌, ℕ, suc, List, [], length, slice_index_or}
 use Rattle.std.specs.List.{concat}
 
--- the length of the chunk under a number where there are `count` numbers
+-- The chunk of this number has the length `size`, if the list contains `count` numbers.
 pub record IsFilled (count number size : ℕ) : Type 0 where
   pub full : number * 1024 + 1024 ≤ count → size ≡ 1024
   pub part : count < number * 1024 + 1024 → size ≡ count - number * 1024
 
--- Each chunk has its length for `count` numbers, but one of them one number fewer.
+-- Each chunk has its length for `count` numbers, except that the chunk `hole` has one number fewer.
 pub record HasHole (chunks : List (List ℕ)) (count hole : ℕ) : Type 0 where
   pub here : IsFilled count hole (suc (length (slice_index_or chunks hole [])))
   pub others : (number : ℕ) → number ≢ hole → IsFilled count number (length (slice_index_or chunks number []))
 
--- The chunks have `count` numbers, and there are chunks enough for one number more than there is room for.
+-- The chunks contain `count` numbers, which are at most `room`. There are enough chunks for `room + 1` numbers.
 pub record AreChunks (chunks : List (List ℕ)) (count room : ℕ) : Type 0 where
   pub filled : (number : ℕ) → IsFilled count number (length (slice_index_or chunks number []))
   pub counted : length (concat chunks) ≡ count

@@ -1,4 +1,4 @@
--- What a disk of deferred calls keeps beside its log.
+-- The state that a disk of deferred calls keeps besides its log.
 use Rattle.std.specs.Prelude.{⊤, ◌≡◌, ℕ, ◌+◌, ◌-◌, ◌*◌, ◌/◌, ◌^◌, ◌<◌, ◌≤◌, min, Bool, true}
 use Rattle.std.specs.Prelude.{false, Option, List, [], ◌∷◌, length, take, get_or, refl}
 use Rattle.std.specs.Coded.{Coded, code_by, coded×, coded_ℕ, coded_bool, coded_list, coded_option}
@@ -8,18 +8,18 @@ use Rattle.deferred_disk.specs.Deferred.{Deferred, AreAlike}
 use Rattle.device.specs.inside.Codes.{change_code}
 use Rattle.device.specs.inside.Replay.{AreWithin}
 
--- the block of this place is known
+-- The block that contains this place is known.
 abbrev pub IsKnownAt : List Bool → ℕ → Type 0
 IsKnownAt flags i = get_or flags (i / 4096) false ≡ true
 
--- each place that one of these changes wrote is in a block that is known
+-- Each place that one of these changes wrote is in a known block.
 abbrev pub AreKnown : List Bool → List DiskChange → Type 0
 AreKnown flags [] = ⊤
 AreKnown flags (write at bytes ∷ older) =
     ((i : ℕ) → at ≤ i → i < at + length bytes → IsKnownAt flags i) × AreKnown flags older
 AreKnown flags (sync ∷ older) = AreKnown flags older
 
--- two contents agree in each block that is known
+-- Two contents agree in each known block.
 abbrev pub AgreeWhereKnown : List Bool → List ℕ → List ℕ → Type 0
 AgreeWhereKnown flags bytes seen = (i : ℕ) → IsKnownAt flags i → get_or bytes i 0 ≡ get_or seen i 0
 
@@ -33,7 +33,7 @@ pub record IsKept (first : List ℕ) (changes : List DiskChange) (supplied : Lis
   pub reached : AreKnown flags waiting
   pub agrees : AreAlike supplied → AgreeWhereKnown flags bytes (content_after first changes)
 
--- so many changes were counted, up to 2^64-1
+-- The count is the number of these changes, or 2^64-1 if there are more.
 abbrev pub AreCounted : ℕ → List DiskChange → Type 0
 AreCounted count changes = count ≡ min (length changes) (2 ^ 64 - 1)
 

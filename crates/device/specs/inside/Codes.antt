@@ -1,4 +1,4 @@
--- The codes by which a proof tells disks apart: a disk as the tuple of its parts.
+-- Codes by which a proof distinguishes disks: each disk is encoded as the tuple of its parts.
 use Rattle.std.specs.Prelude.{◌≡◌, ℕ, Bool, List, Option, Some, None, refl}
 use Rattle.std.specs.Coded.{Coded, code_by, coded×, coded_ℕ, coded_bool, coded_list, coded_option}
 use Rattle.device.specs.Memory.{DiskChange}
@@ -21,7 +21,7 @@ opened_code {F} file =
     code_by (F × (ℕ × (ℕ × ℕ))) (numbered_code file) (λ d. (d.file, (d.size, (d.calls, d.faults))))
     (λ p. record { file = p.0; size = p.1.0; calls = p.1.1.0; faults = p.1.1.1 }) (λ _. refl)
 
--- a write as its offset and bytes, and a sync as nothing
+-- the offset and bytes of a write, and nothing for a sync
 abbrev pub parts_of : DiskChange → Option (ℕ × List ℕ)
 parts_of (write at bytes) = Some (at, bytes)
 parts_of sync = None

@@ -1,4 +1,4 @@
--- The bytes that a disk over a file gives, where the file is as long as the disk.
+-- The bytes that a disk reads from a file that is as long as the disk.
 use Rattle.std.specs.Prelude.{◌≡◌, ℕ, List, ◌++◌, length, replicate}
 use Rattle.std.proofs.Common.{sym, ◌∙◌, subst, arith, length-append, length-take}
 use Rattle.std.proofs.lemmas.List.{take_at, length-replicate}
@@ -13,7 +13,7 @@ fitted_size n bytes = omega (
   length-replicate {A = ℕ} n 0,
 )
 
--- a file of that length is given as it is
+-- A file of this length is read unchanged.
 pub whole_fitted : (n : ℕ) (bytes : List ℕ) → length bytes ≡ n → fitted n bytes ≡ bytes
 unfolding fitted
 whole_fitted n bytes same = take_at bytes (replicate n 0) n same

@@ -1,8 +1,8 @@
--- What is left of a range that is written over in pieces.
+-- The state of a device after a range of it was overwritten in pieces.
 use Rattle.std.specs.Prelude.{◌≡◌, ◌↔◌, ℕ, List, length}
 use Rattle.device.specs.Device.{Torn, TornFrom, LeavesOnly}
 
--- The calls since old wrote within this range and nowhere else, and made nothing surer.
+-- The calls since `old` wrote within this range only, and made no write durable.
 pub record WroteWithin {D : Type 0} (seen : D → List ℕ) (may_leave : D → List ℕ → Type 0) (moment : D → ℕ)
     (left_since : D → ℕ → List ℕ → Type 0) (is_honest : D → Type 0) (carried : D → ℕ) (at len : ℕ) (old new : D)
     : Type 0 where

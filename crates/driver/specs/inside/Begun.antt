@@ -1,4 +1,4 @@
--- What processors were called for before and after their threads start, and what is left in the end.
+-- The calls of processors before and after their threads start, and what a run leaves.
 use Rattle.std.specs.Prelude.{ℕ, ◌≡◌, ◌⊎◌, List, length, map, slice_get, Some}
 use Rattle.device.specs.declared.device.Device.{Ghosts}
 use Rattle.machine.specs.declared.act.Step.{Step}
@@ -10,30 +10,30 @@ use Rattle.driver.specs.declared.running.Ran.{Ran}
 use Rattle.driver.specs.Driver.{acts_of, BeginsWith, RunsFrom}
 use Rattle.driver.specs.Programs.{RunsProgram, HaveRunPrograms}
 
--- a processor of this number made exactly its steps of these
+-- The processor of number i made exactly its acts among the steps.
 abbrev pub HasMade : List Step → ℕ → CpuState → Type 0
 HasMade steps i cpu = (cpu.number ≡ i) × (map (λ a. a.0) cpu.answered ≡ acts_of i steps)
 
--- so did each of these
+-- Each of these processors made exactly its acts among the steps.
 pub record HaveMade (steps : List Step) (cpus : List CpuState) : Type 0 where
   pub each : (i : ℕ) (cpu : CpuState) → slice_get cpus i ≡ Some cpu → HasMade steps i cpu
 
--- the calls of each of these are the beginning of its steps, or all of them
+-- The calls of each of these processors are the first of its acts among the steps, or all of them.
 pub record HaveBegun (steps : List Step) (cpus : List CpuState) : Type 0 where
   pub each : (i : ℕ) (cpu : CpuState) → slice_get cpus i ≡ Some cpu
       → (cpu.number ≡ i) × BeginsWith (map (λ a. a.0) cpu.answered) (acts_of i steps)
 
--- each of these processors made its steps, and then ran its program
+-- Each of these processors made its acts among the steps, and then ran its program.
 pub record HaveRun (steps : List Step) (programs : List (List Command)) (cpus : List CpuState) : Type 0 where
   pub each : (i : ℕ) (cpu : CpuState) → slice_get cpus i ≡ Some cpu
       → (first : CpuState) × HasMade steps i first × RunsProgram (slice_get programs i) first cpu
 
--- so they did, or they began to make their steps, and were answered as often as the trace may have entries
+-- The processors made their steps and ran their programs. Or they only began their steps, and the trace is full.
 abbrev pub AreReady : List Step → List (List Command) → ℕ → List CpuState → Type 0
 AreReady steps programs capacity cpus =
     ((answered_calls cpus ≡ capacity) × HaveBegun steps cpus) ⊎ HaveRun steps programs cpus
 
--- this is left of programs that were run on a machine after these steps, with a trace of this capacity
+-- A run of these programs left `ran`, on a machine that made these steps before, with a trace of this capacity.
 pub record HasRanFrom {D : Type 0} (disk : Ghosts D) (start : Whole D) (steps : List Step)
     (programs : List (List Command)) (capacity : ℕ) (ran : Ran D) : Type 0 where
   pub run : RunsFrom disk start (steps_of ran.trace.items) (replies_of ran.trace.items) ran.device

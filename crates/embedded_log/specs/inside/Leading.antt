@@ -1,4 +1,4 @@
--- Where the calls of a request lead, as long as the host supplied each block as it was.
+-- How the calls of a request change the state, if the host supplied each block as the disk had it.
 use Rattle.std.specs.Prelude.{⊤, ◌≡◌, ℕ, true, List, Contains}
 use Rattle.deferred_disk.specs.Deferred.{Deferred, carried_moment, IsSuppliedWell}
 use Rattle.recovery.specs.Reading.{IsOnlyRead}
@@ -7,8 +7,9 @@ use Rattle.log_files.specs.State.{LogFilesState}
 use Rattle.embedded.specs.Recorded.{deferred_disk}
 use Rattle.embedded_log.specs.Runs.{HasRunLog, HasServedLog}
 
--- The calls of a request led from one state to another, whichever calls came before, and no device call of the host was
--- taken back. Once a device call of a commit or a step had failed, the device was only read.
+-- The calls of a request led from one state to another, after any earlier calls. They didn't change the number of
+-- device calls that the host has made. If a device call of a commit or a step had failed before, the device was only
+-- read.
 pub record LeadsLog (old new : LogFilesState Deferred) : Type 0 where
   pub well : IsSuppliedWell new.pager.device → IsSuppliedWell old.pager.device
   pub carried : carried_moment new.pager.device ≡ carried_moment old.pager.device
@@ -17,7 +18,7 @@ pub record LeadsLog (old new : LogFilesState Deferred) : Type 0 where
   pub stuck : IsSuppliedWell new.pager.device → old.pager.store.tail.spent ≡ true
       → IsOnlyRead deferred_disk old.pager.device new.pager.device × (new.pager.store.tail.spent ≡ true)
 
--- The same of calls that didn't fail, whose events have this.
+-- The same for calls that didn't fail. E holds for their events.
 pub record RunsLog (E : List Event → Type 0) (old new : LogFilesState Deferred) : Type 0 where
   pub well : IsSuppliedWell new.pager.device → IsSuppliedWell old.pager.device
   pub carried : carried_moment new.pager.device ≡ carried_moment old.pager.device

@@ -1,4 +1,4 @@
--- How the page of a fault comes into a frame: what is planned, and what is done.
+-- How the page of a fault is brought into a frame: the plan, and the result.
 use Rattle.std.specs.Prelude.{ℕ, ◌≡◌, true, false, List, Some, None, slice_get, if◌then◌else◌}
 use Rattle.page_entry.specs.declared.refusal.Refusal.TheVariants as refusals
 use Rattle.frames.specs.Frames.{FramesState, has_free, with_page}
@@ -10,7 +10,10 @@ use Rattle.fault.specs.declared.plan.Plan.TheVariants.{Keep, Copy, Read}
 use Rattle.fault.specs.Fault.{copies_out, Brings, CopiesOut}
 use Rattle.fault.specs.Fixing.{IsReadFrom, refusal_of, reads_home}
 
--- A plan fits a fault: a frame has the page, and takes a copy of its bytes or doesn't; or the page is to be read.
+-- The plan fits the fault.
+-- - Keep: the frame contains the page, and no copy is needed.
+-- - Copy: the frame contains the page, and must be copied. Without a free copy frame, the fault is refused.
+-- - Read: the page must be read, and no copy is needed.
 abbrev pub IsPlanned : FramesState → CheckpointState → PageFault → Plan → Type 0
 IsPlanned memory c fault (Keep frame) =
     Holds memory frame (page_at fault.place) × (copies_out memory c (page_at fault.place) fault.write ≡ false)
@@ -21,7 +24,7 @@ IsPlanned memory c fault (Copy frame) =
 IsPlanned memory c fault Read =
     (reads_home memory c fault ≡ true) × (copies_out memory c (page_at fault.place) fault.write ≡ false)
 
--- the page was read into a free frame
+-- The page was read into a free frame.
 pub record IsReadIn (honest : Type 0) (disk : List ℕ) (memory : FramesState) (fault : PageFault) (frame : ℕ)
     (new : FramesState) : Type 0 where
   pub bytes : List ℕ
@@ -29,7 +32,7 @@ pub record IsReadIn (honest : Type 0) (disk : List ℕ) (memory : FramesState) (
   pub free : slice_get memory.frames frame ≡ Some None
   pub taken : new ≡ with_page memory frame (page_at fault.place) bytes
 
--- the page is in this frame, and its bytes are copied if a store goes to a held page
+-- The page is in `frame`. Its bytes were copied if the fault is a store to a held page.
 pub record IsInFrame (honest : Type 0) (disk : List ℕ) (memory : FramesState) (c : CheckpointState) (fault : PageFault)
     (frame : ℕ) (new : FramesState) : Type 0 where
   pub allowed : refusal_of memory c fault ≡ None

@@ -5,14 +5,14 @@ use Rattle.page_entry.specs.declared.numbers.FilePage.{FilePage}
 use Rattle.frames.specs.Frames.{Frame, FramesState, page_of, AreFrames, AreInOrder}
 use Rattle.frames.specs.inside.Pages.{comes_before}
 
--- The list has the frames in use in order, each once, and there is room for all frames.
+-- `order` lists each frame in use once, in order, and has room for all frames.
 pub record IsListed (s : FramesState) (order : List ℕ) (room : ℕ) : Type 0 where
   pub are : AreFrames s
   pub in_order : AreInOrder s order
   pub counted : length order ≡ count_by is_some s.frames
   pub enough : length s.frames ≤ room
 
--- the place of a page in the order: the frames of the pages that come before it are before the place, and no others
+-- `place` is the page's place in the order. Exactly the frames whose pages come before `page` are before this place.
 pub record IsPlaceOf (frames : List (Option Frame)) (order : List ℕ) (page : FilePage) (place : ℕ) : Type 0 where
   pub within : place ≤ length order
   pub parts : IsPartitionPoint

@@ -1,4 +1,4 @@
--- When write-outs are consistent with a device: what ties them to its bytes.
+-- When write-outs are consistent with a device.
 use Rattle.std.specs.Prelude.{ℕ, ◌≡◌, false, MatchBool, List, []}
 use Rattle.device.specs.Device.{Only}
 use Rattle.volume_codec.specs.Layout.{IsHome, block_at}
@@ -9,7 +9,8 @@ use Rattle.journal.specs.Crash.{LeftBefore, LeftWithin}
 use Rattle.journal.specs.inside.Sound.{IsSound}
 use Rattle.journal.specs.inside.Tied.{IsTied}
 
--- the write-outs are consistent with a device that reads `seen` and of which a crash may leave these lists
+-- The write-outs are consistent with a device that reads `seen`, and of which a crash may leave the lists of
+-- `may_leave`.
 pub record IsConsistent (v : SuperValue) (outs : WriteOutsValue) (old new : ℕ → List ℕ) (seen : List ℕ)
     (may_leave : List ℕ → Type 0) : Type 0 where
   pub geometry : outs.geometry ≡ geometry_of v

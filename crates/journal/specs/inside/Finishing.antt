@@ -11,16 +11,18 @@ use Rattle.journal.specs.Finished.{IsOutside, gate_byte, HoldsVolume, RecoversSa
 use Rattle.journal.specs.inside.Queued.{committed_in}
 use Rattle.journal.specs.inside.Tied.{IsTied}
 
--- of these batches of open journals, the newest first: committed, and to be applied, the oldest first
+-- The write-outs of these batches of open journals: each is committed and isn't applied yet. The batches are listed
+-- with the newest first, the write-outs with the oldest first.
 abbrev pub found_in : ℕ → List Batch → List WriteOut
 found_in slots [] = []
 found_in slots (batch ∷ older) = found_in slots older ++ committed_in slots batch ∷ []
 
--- the oldest with those that wait, until it is done
+-- The oldest write-out followed by the newer ones, or only these once the oldest is done.
 abbrev pub left_of : WriteOut → List WriteOut → List WriteOut
 left_of w newer = option_map_or (λ stage. w ∷ newer) (next_stage w) newer
 
--- of a volume that a device held at the start
+-- `batch` is being finished, in a volume that the device contained at `start`. `now` is the device after the first
+-- `steps` steps of the batch's write-out, counted with those that committed it.
 pub record IsOnWay {D : Type 0} (disk : Ghosts D) (v : SuperValue) (newer : List Batch) (contents : ℕ → List ℕ)
     (batch : Batch) (steps : ℕ) (start now : D) : Type 0 where
   pub tied : IsTied v (left_of (after_steps v.slots batch steps) (found_in v.slots newer)) contents contents
@@ -31,7 +33,8 @@ pub record IsOnWay {D : Type 0} (disk : Ghosts D) (v : SuperValue) (newer : List
   pub synced : all_steps v.slots batch ≤ steps → Only (disk.may_leave now) (disk.seen now)
   pub time : LeavesOnly disk.moment disk.left_since start now (RecoversSame v contents (disk.seen start))
 
--- after so many steps, of which none met a device call that failed
+-- `now` is the device after the first `steps` steps of the batch's write-out, counted with those that committed it. No
+-- device call failed since `start`.
 pub record IsUnderWay {D : Type 0} (disk : Ghosts D) (g : GeometryValue) (batch : Batch) (steps : ℕ) (start now : D)
     : Type 0 where
   pub on_way : (v : SuperValue) (newer : List Batch) (contents : ℕ → List ℕ) → geometry_of v ≡ g

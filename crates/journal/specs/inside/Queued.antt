@@ -6,10 +6,10 @@ use Rattle.journal.specs.WriteOut.{WriteOut, begun_of, advanced_of, write_out_af
 
 pub record QueuedWriteOut : Type 0 where
   pub write_out : WriteOut
-  -- how many home blocks its list has memory for
+  -- the number of home blocks for which its list has memory
   pub room : ℕ
 
--- before its first step
+-- The queued write-out before its first step.
 abbrev pub queued_of : ℕ → Batch → ℕ → QueuedWriteOut
 queued_of slots batch room = record { write_out = begun_of slots batch; room = room }
 
@@ -20,10 +20,10 @@ committed_of w = record w { steps = length w.batch.homes + w.described + 3 }
 abbrev pub committed_in : ℕ → Batch → WriteOut
 committed_in slots batch = committed_of (begun_of slots batch)
 
--- after one more step
+-- The queued write-out after one more step.
 abbrev pub queued_advanced : QueuedWriteOut → QueuedWriteOut
 queued_advanced queued = record queued { write_out = advanced_of queued.write_out }
 
--- after a step that answers so
+-- The queued write-out after a step with this answer.
 abbrev pub queued_after : QueuedWriteOut → Flushed → QueuedWriteOut
 queued_after queued answer = record queued { write_out = write_out_after answer queued.write_out }

@@ -7,7 +7,7 @@ use Rattle.log_volume.specs.Files.{RecoversToLog}
 use Rattle.log_disk.specs.Disk.{LogDiskValue}
 use Rattle.log_disk.specs.Opening.{shown_bytes}
 
--- a disk that was opened over a copy of these bytes shows their files
+-- A disk that was opened over a copy of these bytes shows their files.
 pub record IsShownBy (image : List ℕ) (disk : LogDiskValue Recorded) : Type 0 where
   pub fresh : disk.memory ≡ new_disk (shown_bytes disk.volume disk.table (seen_of disk.device))
   pub files : (files : List File) → RecoversToLog image files → RecoversTo (seen_of disk.memory) files

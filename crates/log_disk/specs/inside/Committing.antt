@@ -1,4 +1,4 @@
--- The records of a batch that are put for a commit, and what their commit leaves.
+-- How the records of a batch are put into a pager for a commit, and what this commit leaves.
 use Rattle.std.specs.Prelude.{◌≡◌, ◌≢◌, ◌⊎◌, ℕ, ◌+◌, ◌-◌, ◌<◌, ◌≤◌, ◌↔◌, Bool, true, List, [], ◌∷◌, length, Some, None}
 use Rattle.std.specs.Prelude.{slice_index}
 use Rattle.device.specs.declared.device.Device.{Ghosts}
@@ -13,11 +13,12 @@ use Rattle.log_pager.specs.Pager.{LogPagerValue, IsPagerOver}
 use Rattle.log_room.specs.Room.{IsEnded, KeepsFirst}
 use Rattle.shown_volume.specs.Shown.{ShownValue, OpensShown}
 
--- the home block of the volume, whose first one is this, for one of the disk, whose first one is that
+-- The home block of the volume that corresponds to home block `home` of the disk. The volume's first home block is
+-- `first`, and that of the disk is `low`.
 abbrev pub moved_home : ℕ → ℕ → ℕ → ℕ
 moved_home first low home = home - low + first
 
--- the first n records of a batch are put, and nothing else
+-- The first `n` records of a batch are put, and nothing else is.
 pub record ArePut (shown : ShownValue) (batch : Batch) (low first n : ℕ) (put : Blocks) : Type 0 where
   pub each : (i : ℕ) → i < n → (block : List ℕ)
       × (bytes_in shown.blocks (record_block shown.geometry.slots batch.journal i) ≡ Some block)
@@ -25,14 +26,14 @@ pub record ArePut (shown : ShownValue) (batch : Batch) (low first n : ℕ) (put 
   pub others : (q : ℕ) → ((i : ℕ) → i < n → q ≢ moved_home first low (slice_index batch.homes i))
       → bytes_in put q ≡ None
 
--- a pager after the first n records of a batch were put: nothing else changed
+-- `new` is the pager `old` after the first `n` records of a batch were put. Nothing else changed.
 pub record HasPutUpTo {D : Type 0} (disk : Ghosts D) (shown : ShownValue) (batch : Batch) (low first n : ℕ)
     (old new : LogPagerValue D) : Type 0 where
   pub put : ArePut shown batch low first n new.staged
   pub staged : new ≡ record old { staged = new.staged }
   pub over : (contents : ℕ → List ℕ) → IsPagerOver disk old contents → IsPagerOver disk new contents
 
--- new contents of the volume are the old ones with the records of a batch
+-- The new contents of the volume are the old ones with the records of a batch.
 pub record HasPut (shown : ShownValue) (batch : Batch) (low first : ℕ) (old new : ℕ → List ℕ) : Type 0 where
   pub records : (i : ℕ) → i < length batch.homes
       → bytes_in shown.blocks (record_block shown.geometry.slots batch.journal i)
@@ -44,8 +45,8 @@ pub record HasPut (shown : ShownValue) (batch : Batch) (low first : ℕ) (old ne
 abbrev pub with_batch : ShownValue → Batch → ShownValue
 with_batch shown batch = record shown { opened = batch ∷ shown.opened }
 
--- The records of a batch were put, its gate is open, and they were committed to the log, or a fault came within the
--- commit. Then contents have the records.
+-- The records of a batch were put, the batch's gate is open, and the records were committed to the log, or the commit
+-- failed. After the commit, the contents have these records.
 pub record CommitsBatch {D : Type 0} (disk : Ghosts D) (old : LogPagerValue D) (shown : ShownValue) (batch : Batch)
     (low first : ℕ) (done : Bool) (new : LogPagerValue D) (opened : ShownValue) : Type 0 where
   pub log : new.store.tail.log ≡ old.store.tail.log

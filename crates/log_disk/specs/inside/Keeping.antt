@@ -1,4 +1,4 @@
--- What a disk over a volume with a log keeps.
+-- The invariant of a disk over a volume with a log.
 use Rattle.std.specs.Prelude.{⊤, ◌≡◌, ℕ, ◌+◌, ◌*◌, ◌≤◌, ◌↔◌, MatchBool, Bool, false, List, [], ◌∷◌, ◌++◌, length}
 use Rattle.std.specs.List.{AllByRecursion}
 use Rattle.device.specs.declared.device.Device.{Ghosts}
@@ -21,30 +21,30 @@ use Rattle.log_disk.specs.Serving.{IsShownTable, volume_home}
 use Rattle.log_disk.specs.Disk.{LogDiskValue}
 use Rattle.log_disk.specs.Made.{batch_homes, batch_records, gate_write, gates_opened, opens_gate}
 
--- contents of the volume, as the disk shows them
+-- The contents of the volume as the disk shows them.
 abbrev pub shown_contents : LogSuperValue → SuperValue → (ℕ → List ℕ) → ℕ → List ℕ
 shown_contents v t contents b = contents (volume_home v t b)
 
--- bytes of the device and of the disk recover to the same contents
+-- The bytes `c` of the device and `w` of the disk recover to the same contents.
 pub record RecoverAlike (v : LogSuperValue) (t : SuperValue) (c w : List ℕ) : Type 0 where
   pub contents : ℕ → List ℕ
   pub first : block_at c 0 ≡ log_super_text v
   pub volume : LogRecovers (log_of v) contents c
   pub disk : Recovers t (shown_contents v t contents) w
 
--- each list c that a crash of the device left since a moment so far has one w beside it that a crash of the disk might
--- have left since its moment then; so they are by R, with that moment
+-- The following holds for each pair of moments so far. Let a crash of the device since its moment leave `c`. Then a
+-- crash of the disk since its moment might have left some `w`, so that `R` holds of the disk's moment, `c` and `w`.
 abbrev pub AreBackedBy : {D : Type 0} → (ℕ → List ℕ → List ℕ → Type 0) → Ghosts D → D → Recorded → List (ℕ × ℕ)
     → Type 0
 AreBackedBy R disk device memory moments = AllByRecursion (λ m. (c : List ℕ) → disk.left_since device m.1 c
     → (w : List ℕ) × left_since_of memory m.0 w × R m.0 c w) moments
 
--- these recover alike
+-- The same, for lists that recover alike.
 abbrev pub AreBacked : {D : Type 0} → Ghosts D → D → LogSuperValue → SuperValue → Recorded → List (ℕ × ℕ) → Type 0
 AreBacked disk device v t memory moments = AreBackedBy (λ u c w. RecoverAlike v t c w) disk device memory moments
 
--- The disk had bytes w after its older changes, at a moment that isn't before the one that is asked for, or just before
--- that. Bytes c of the device hold the commits that the disk had made then, and recover to the same contents by these.
+-- The disk had the bytes `w` after its older changes, at `moment` or later, or just before it. `c` contain the commits
+-- that the disk had made by then, with the contents that `w` recover to.
 pub record IsHeld (v : LogSuperValue) (t : SuperValue) (start : LogStart) (first : List ℕ) (changes : List DiskChange)
     (moment : ℕ) (c w : List ℕ) : Type 0 where
   pub newer : List DiskChange
@@ -57,7 +57,7 @@ pub record IsHeld (v : LogSuperValue) (t : SuperValue) (start : LogStart) (first
   pub recovers : Recovers t (shown_contents v t contents) w
   pub holds : HoldsUpTo (log_of v) (start.number + gates_opened older) contents c
 
--- a write opened the gate of a batch: then the bytes recover to the contents with its records
+-- A write opened the gate of a batch. Then the bytes recover to the contents with the batch's records.
 pub record OpensGate (v : LogSuperValue) (t : SuperValue) (first : List ℕ) (change : DiskChange)
     (older : List DiskChange) : Type 0 where
   pub batch : Batch
@@ -67,7 +67,7 @@ pub record OpensGate (v : LogSuperValue) (t : SuperValue) (first : List ℕ) (ch
       → Recovers t (shown_contents v t (committed_to contents (batch_homes v t batch)
       (batch_records t batch (content_after first (change ∷ older))))) (content_after first (change ∷ older))
 
--- another change leaves the contents
+-- Another change doesn't change the contents.
 abbrev pub StaysAlike : LogSuperValue → SuperValue → List ℕ → DiskChange → List DiskChange → Type 0
 StaysAlike v t first change older =
     (contents : ℕ → List ℕ) → Recovers t (shown_contents v t contents) (content_after first older)
@@ -79,13 +79,13 @@ AreFollowed v t first (change ∷ older) =
     MatchBool (opens_gate change) (OpensGate v t first change older) (StaysAlike v t first change older)
     × AreFollowed v t first older
 
--- the newest pair of moments is this one, and none is later
+-- The newest pair of moments is `(u, r)`, and no other pair has a later moment.
 pub record AreMoments (u r : ℕ) (moments : List (ℕ × ℕ)) : Type 0 where
   pub older : List (ℕ × ℕ)
   pub newest : moments ≡ (u, r) ∷ older
   pub each : AllByRecursion (λ m. (m.0 ≤ u) × (m.1 ≤ r)) older
 
--- a disk in memory that held these bytes at first, by its writes and syncs alone
+-- A disk in memory that first had the bytes `first`, then recorded these writes and syncs.
 abbrev pub changed : List ℕ → List DiskChange → Recorded
 changed first changes = record { first = first; changes = changes; start = 0; calls = 0; faults = 0 }
 
@@ -99,12 +99,12 @@ pub record IsOverLog {D : Type 0} (disk : Ghosts D) (v : LogSuperValue) (t : Sup
   pub first : (c : List ℕ) → disk.may_leave pager.device c → block_at c 0 ≡ log_super_text v
   pub recovers : RecoversBy t shown.opened (shown_contents v t contents) seen
 
--- the device is honest, and a byte seals commits
+-- The device is honest, and a byte seals commits.
 abbrev pub IsHonestBelow : {D : Type 0} → Ghosts D → LogSuperValue → LogPagerValue D → Type 0
 IsHonestBelow disk v pager = disk.is_honest pager.device × (v.sealing ≡ ByByte)
 
--- A disk that has failed takes no further call. Until then what its users see is the volume that it keeps, and nothing
--- is put without a commit.
+-- The invariant of a disk. Until it fails, its users see the volume that it keeps, and no record is put without a
+-- commit. Once it has failed, it takes no further call.
 pub record IsKeptDisk {D : Type 0} (disk : Ghosts D) (v : LogSuperValue) (t : SuperValue) (start : LogStart)
     (first : List ℕ) (changes : List DiskChange) (moments : List (ℕ × ℕ)) (pager : LogPagerValue D) (shown : ShownValue)
     (failed : Bool) : Type 0 where
@@ -126,7 +126,7 @@ pub record IsKeptDisk {D : Type 0} (disk : Ghosts D) (v : LogSuperValue) (t : Su
 
 -- ---- what calls do
 
--- the device was only called in ways that aren't seen on the disk
+-- The device was called only in ways that the disk's users can't see.
 pub record ReadsOn {D : Type 0} (disk : Ghosts D) (old new : LogDiskValue D) : Type 0 where
   pub memory : new.memory ≡ old.memory
   pub volume : new.volume ≡ old.volume
@@ -136,7 +136,7 @@ pub record ReadsOn {D : Type 0} (disk : Ghosts D) (old new : LogDiskValue D) : T
   pub later : disk.moment old.device ≤ disk.moment new.device
   pub honest : disk.is_honest new.device ↔ disk.is_honest old.device
 
--- the disk has a write or a sync more
+-- The disk recorded one more write or sync.
 pub record WritesOn {D : Type 0} (disk : Ghosts D) (old : LogDiskValue D) (change : DiskChange)
     (new : LogDiskValue D) : Type 0 where
   pub memory : new.memory ≡ record old.memory { changes = change ∷ old.memory.changes }
@@ -147,6 +147,6 @@ pub record WritesOn {D : Type 0} (disk : Ghosts D) (old : LogDiskValue D) (chang
   pub later : disk.moment old.device ≤ disk.moment new.device
   pub honest : disk.is_honest new.device ↔ disk.is_honest old.device
 
--- with these counts of its calls and of those that failed
+-- The disk with these numbers of its calls and of its failed calls.
 abbrev pub with_counts : {D : Type 0} → LogDiskValue D → ℕ → ℕ → LogDiskValue D
 with_counts disk calls faults = record disk { memory = record disk.memory { calls = calls; faults = faults } }

@@ -1,4 +1,4 @@
--- What an opening is made of.
+-- The parts of an opening.
 use Rattle.std.specs.Prelude.{◌≡◌, Bool, List, [], map, slice_index}
 use Rattle.device.specs.declared.device.Device.{Ghosts}
 use Rattle.device.specs.Device.{Only}
@@ -9,11 +9,12 @@ use Rattle.log_codec.specs.Chain.{HasLog}
 use Rattle.log_codec.specs.Start.{counts_second}
 use Rattle.log_volume.specs.Super.{LogSuperValue, log_of, log_super_text}
 
--- these files as they are asked for, each as long as it may grow
+-- These files in the form of a request, each with its capacity as its length.
 abbrev pub asked_whole : List TableFile → List AskedFile
 asked_whole files = map (λ f. record { name = f.name; length = f.capacity; capacity = f.capacity }) files
 
--- the device has this volume, whose log has this start and no commit, and all of it is synced
+-- The device contains this volume, and all of it is synced. The log has this start and no commit. `second` is whether
+-- the second start is selected.
 pub record IsOpenedLog {D : Type 0} (disk : Ghosts D) (v : LogSuperValue) (start : LogStart) (second : Bool)
     (device : D) : Type 0 where
   pub super_block : block_at (disk.seen device) 0 ≡ log_super_text v

@@ -1,4 +1,4 @@
--- Disks over a volume with a log, of which a crash leaves what stands for bytes of the disk.
+-- Disks over a volume with a log, if all that a crash leaves of the device stands for bytes of the disk.
 use Rattle.std.specs.Prelude.{◌≡◌, List, [], ◌∷◌}
 use Rattle.device.specs.declared.device.Device.{Ghosts}
 use Rattle.machine.specs.declared.act.Reply.{Reply}
@@ -8,17 +8,17 @@ use Rattle.machine.specs.State.{Whole}
 use Rattle.log_disk.specs.Disk.{LogDiskValue, shown_by}
 use Rattle.log_disk.specs.Laws.{StandsSince}
 
--- what a crash leaves of the device since any earlier state
+-- If the device is honest, `StandsSince` holds since any earlier state of the disk.
 abbrev pub Stands : {D : Type 0} → Ghosts D → LogDiskValue D → Type 0
 Stands {D} disk d = disk.is_honest d.device → (old : LogDiskValue D) → StandsSince disk old d
 
--- a step was made, and the disk after it is one of these
+-- A step was made, and `Stands` holds of the disk after it.
 pub record StepStands {D : Type 0} (disk : Ghosts D) (old : Whole (LogDiskValue D)) (step : Step) (reply : Reply)
     (new : Whole (LogDiskValue D)) : Type 0 where
   pub taken : StepTaken (shown_by disk) old step reply new
   pub stands : Stands disk new.device
 
--- these replies to these steps, with such a disk after each
+-- These steps had these replies, and `Stands` holds of the disk after each step.
 abbrev pub StepsStand : {D : Type 0} → Ghosts D → Whole (LogDiskValue D) → List Step → List Reply
     → Whole (LogDiskValue D) → Type 0
 StepsStand disk old [] [] new = new ≡ old

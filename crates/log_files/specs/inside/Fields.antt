@@ -1,4 +1,4 @@
--- What contracts see of the fields.
+-- The state that contracts see, from the private fields.
 use Rattle.log_files.specs.State.{LogFilesState}
 use Rattle.log_files.specs.declared.files.LogFiles.TheInside.{Inside}
 

@@ -1,14 +1,14 @@
--- Files at their capacities, which the table of layout 1 asks for, and the one value that may be asked for.
+-- Files at their capacities, for the table of layout 1, and the only super block that a request can mean.
 use Rattle.std.specs.Prelude.{ℕ, List, map}
 use Rattle.volume_codec.specs.Files.{AskedFile}
 use Rattle.log_codec.specs.declared.sealing.Sealing.{Sealing}
 use Rattle.log_volume.specs.Super.{LogSuperValue}
 
--- each file, as long as its capacity
+-- Each file with its capacity as its length.
 abbrev pub full_files : List AskedFile → List AskedFile
 full_files files = map (λ f. record { name = f.name; length = f.capacity; capacity = f.capacity }) files
 
--- what the super block says that is asked for
+-- The super block with the requested seal, log and files.
 abbrev pub log_asked : Sealing → List AskedFile → ℕ → LogSuperValue
 log_asked sealing files ring = record {
   sealing = sealing;

@@ -1,4 +1,4 @@
--- What laying out a volume with a log does.
+-- The effect of the calls that lay out a volume with a log.
 use Rattle.std.specs.Prelude.{◌≡◌, ℕ, Bool, true, false, length, Result, Ok, Err}
 use Rattle.device.specs.declared.device.Device.{Ghosts}
 use Rattle.page_entry.specs.declared.refusal.Refusal.{Refusal}
@@ -14,8 +14,8 @@ use Rattle.log_format.specs.Asked.{HasLogShape, RefusesLogFormat}
 use Rattle.log_format.specs.Formatting.{laying_works}
 use Rattle.log_format.specs.Fresh.{first_log_start}
 
--- The start of a log and the lengths of a volume were written on a device that is long enough for the volume with a log
--- that is made of it, or one of these calls failed. Each text has the length of a block.
+-- A log's start and a volume's lengths were written on a device that is long enough for the new volume. If `done` is
+-- false, one of these calls failed instead. Each text has the length of a block.
 pub record HasLaidAs {D E : Type 0} (other : Ghosts E) (sealing : Sealing) (volume : VolumeState D) (ring : ℕ)
     (old : E) (table : LogSuperValue) (done : Bool) (new : E) : Type 0 where
   pub shape : HasLogShape sealing (asked_of volume) ring (length (other.seen old)) table
@@ -23,8 +23,8 @@ pub record HasLaidAs {D E : Type 0} (other : Ghosts E) (sealing : Sealing) (volu
   pub lengths_are : length (lengths_text volume.lengths) ≡ 4096
   pub start_is : length (start_text first_log_start) ≡ 4096
 
--- What a device was asked for, by the answer: both; or a part of it, as a call failed; or nothing, as it was refused
--- before.
+-- The device calls that were made, by the result. On success, both writes were made. If a device call failed, they are
+-- the calls up to it. Any other refusal comes before the first call.
 abbrev pub HasLaid : {D E : Type 0} → Ghosts E → Sealing → VolumeState D → ℕ → E → Result LogSuperValue Refusal → E
     → Type 0
 HasLaid other sealing volume ring old (Ok table) new = HasLaidAs other sealing volume ring old table true new

@@ -1,4 +1,4 @@
--- A volume that was found on a device.
+-- A volume found on a device.
 use Rattle.device.specs.declared.device.Device.{Ghosts}
 use Rattle.volume_codec.specs.Layout.{block_at}
 use Rattle.volume_codec.specs.Lengths.{IsLengths}
@@ -9,8 +9,7 @@ use Rattle.log_recovery.specs.Reading.{chain_of}
 use Rattle.log_opening.specs.declared.volume.FoundVolume.{FoundVolume}
 use Rattle.log_opening.specs.inside.Keeping.{IsLookedAt}
 
--- the super block of a device says this table, its log was looked at, and the recovered lengths block says these
--- lengths
+-- The device's super block has this table, its log was found, and the recovered lengths block has these lengths.
 pub record IsFoundVolume {D Z : Type 0} (disk : Ghosts D) (old : D) (found : FoundVolume Z) (new : D) : Type 0 where
   pub super_block : IsLogSuper found.table (block_at (disk.seen old) 0)
   pub looked : IsLookedAt disk (log_of found.table) found.looked.found found.looked.next new

@@ -11,7 +11,7 @@ use Rattle.log_recovery.specs.declared.found.FoundCommit.{FoundCommit}
 use Rattle.log_recovery.specs.declared.found.FoundLog.{FoundLog}
 use Rattle.log_recovery.specs.Reading.{logged_of, chain_of}
 
--- a commit that was found at a position, with this number, has room in the blocks that are left
+-- The commit was found at position `p`, with number `n`, and fits the `left` remaining blocks.
 pub record IsPlacedCommit {Z : Type 0} (g : LogValue) (p n left : ℕ) (commit : FoundCommit Z) : Type 0 where
   pub position : commit.position ≡ p
   pub number : commit.number ≡ n
@@ -19,12 +19,12 @@ pub record IsPlacedCommit {Z : Type 0} (g : LogValue) (p n left : ℕ) (commit :
   pub logged : IsLogged g (logged_of commit)
   pub room : log_commit_blocks (length commit.homes.items) + spare_blocks g.sealing ≤ left
 
--- its descriptor is what these bytes have there
+-- These bytes contain its descriptor there.
 abbrev pub IsDescribedAt : {Z : Type 0} → LogValue → ℕ → FoundCommit Z → List ℕ → Type 0
 IsDescribedAt g p commit bytes =
     IsLogDescriptor g (logged_of commit) (ring_bytes g.ring bytes p (log_descriptor_blocks (length commit.homes.items)))
 
--- no descriptor of the next commit lies at a position, in any epoch
+-- Why the head of the next commit is refused. Damaged: in no epoch does the next commit lie at this position.
 abbrev pub RefusesHead : LogValue → ℕ → ℕ → ℕ → List ℕ → Refusal → Type 0
 RefusesHead g p number left bytes Damaged =
     (epoch : ℕ) (d : LogDescriptor) → IsNextCommit g epoch p number left d bytes → ⊥
@@ -32,17 +32,17 @@ RefusesHead g p number left bytes Device = Unit {0}
 RefusesHead g p number left bytes OutOfMemory = Unit {0}
 RefusesHead g p number left bytes _ = ⊥
 
--- what a log is whose descriptor breaks this rule
+-- The refusal of a log with a descriptor that breaks this rule.
 abbrev pub refusal_by : Broken → Refusal
 refusal_by OutOfMemory' = OutOfMemory
 refusal_by _ = Damaged
 
--- what lies at a position: the next commit, or the end of the log
+-- The finding at a position: the next commit, or the end of the log.
 abbrev pub FindsNext : {Z : Type 0} → LogValue → ℕ → ℕ → ℕ → ℕ → List ℕ → Option (FoundCommit Z) → Type 0
 FindsNext g epoch p number left bytes (Some commit) = IsNextCommit g epoch p number left (logged_of commit) bytes
 FindsNext g epoch p number left bytes None = LogEndsAt g.sealing g epoch p number left bytes
 
--- the log is damaged at a position: no chain goes on there
+-- Why the search at a position fails. Damaged: no chain begins there.
 abbrev pub RefusesNext : LogValue → ℕ → ℕ → ℕ → ℕ → List ℕ → Refusal → Type 0
 RefusesNext g epoch p number left bytes Damaged =
     (ds : List LogDescriptor) → IsChain g epoch p number left ds bytes → ⊥
@@ -50,7 +50,7 @@ RefusesNext g epoch p number left bytes Device = Unit {0}
 RefusesNext g epoch p number left bytes OutOfMemory = Unit {0}
 RefusesNext g epoch p number left bytes _ = ⊥
 
--- the commits that were found are the chain from their start on
+-- The found commits are the chain from their start on.
 abbrev pub HoldsChain : {Z : Type 0} → LogValue → FoundLog Z → List ℕ → Type 0
 HoldsChain g found bytes =
     IsChain g found.start.epoch found.start.position found.start.number g.ring (chain_of found.commits.items) bytes

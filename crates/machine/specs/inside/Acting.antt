@@ -1,4 +1,4 @@
--- What one act of a machine's layers does, over any device.
+-- The effect of one act on a machine's layers, over any device.
 use Rattle.std.specs.Prelude.{ℕ, ◌≡◌, ◌≢◌, ◌↔◌, ◌+◌, ◌-◌, ◌^◌, ◌<◌, ◌&&◌, Bool, if◌then◌else◌, List, length}
 use Rattle.device.specs.Count.{raised}
 use Rattle.device.specs.Device.{Only, LeavesOnly}
@@ -37,18 +37,18 @@ pub record ActDone {D Z : Type 0} (disk : Ghosts D) (old : Layers D Z) (step : S
       (disk.faults_met old.device) (disk.faults_met new.device)
   pub kept : KeepsReserved old new
 
--- an act that leaves the device alone is answered by the rules
+-- An act that leaves the device unchanged is answered by the rules.
 pub record IsAnsweredQuietly {D Z : Type 0} (old : Layers D Z) (p : ℕ) (act : Act) (reply : Reply) (new : Layers D Z)
     : Type 0 where
   pub rules : (disk : List ℕ) → Answers (state_in old) disk p act reply (state_in new)
   pub quiet : IsQuiet old new
 
--- the act asks for a mapping
+-- The act requests a mapping.
 abbrev pub IsMap : Act → Type 0
 IsMap (acts.Map space va len file offset prot access) = Unit {0}
 IsMap act = ⊥
 
--- the counts before a fault was served and after it, where a page was read or wasn't
+-- The counts before and after a fault was served, if a page was read (`reads`) or not.
 abbrev pub FixCalls : Bool → Reply → ℕ → ℕ → ℕ → ℕ → Type 0
 FixCalls reads reply calls calls' faults faults' =
     (calls' ≡ (if reads then raised calls else calls))

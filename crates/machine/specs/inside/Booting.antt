@@ -1,4 +1,4 @@
--- The memory that a machine takes when it is made.
+-- The memory that a machine needs when it is made.
 use Rattle.std.specs.Prelude.{ℕ, ◌≡◌, ◌<◌, ◌≤◌, ◌^◌, List, None}
 use Rattle.volume_codec.specs.Super.{SuperValue, geometry_of}
 use Rattle.frames.specs.Frames.{all_free}
@@ -9,7 +9,7 @@ use Rattle.journal.specs.WriteOuts.{none_of}
 use Rattle.machine.specs.declared.act.Shape.{Shape}
 use Rattle.machine.specs.declared.booting.Room.{Room}
 
--- the numbers of a shape that a machine can have
+-- The numbers of a shape are possible for a machine.
 pub record IsFit (shape : Shape) : Type 0 where
   pub some_processors : 0 < shape.cpus
   pub few_processors : shape.cpus ≤ 16
@@ -18,7 +18,7 @@ pub record IsFit (shape : Shape) : Type 0 where
   pub few_frames : shape.frames < 2 ^ 32
   pub few_copies : shape.copies ≤ 64
 
--- room of a machine that was just made over a volume with this table and these lengths
+-- The memory of a machine that was just made over a volume with this table and these lengths.
 pub record IsRoom {Z : Type 0} (table : SuperValue) (lengths : List ℕ) (shape : Shape) (room : Room Z) : Type 0 where
   pub lengths_are : room.lengths.items ≡ lengths
   pub shootdown : room.shootdown ≡ fresh_shootdown shape.cpus shape.tlb

@@ -1,4 +1,4 @@
--- The code by which a proof tells the values of machines apart.
+-- The code that proofs use to distinguish the values of machines.
 use Rattle.std.specs.Coded.{Coded, coded_ℕ}
 use Rattle.std.specs.FinMap as maps
 use Rattle.spaces.specs.Spaces.{Spaces}

@@ -1,4 +1,4 @@
--- What private calls promise of a step of the write-outs.
+-- The facts that private calls ensure about a step of the write-outs.
 use Rattle.std.specs.Prelude.{ℕ, ◌≡◌, ◌≢◌, ◌*◌, ◌≤◌, ◌<◌, ◌^◌, Bool, true, false, not, List, [], length, None}
 use Rattle.std.specs.Prelude.{Result, Ok, Err}
 use Rattle.device.specs.Did.{Did}
@@ -25,14 +25,15 @@ use Rattle.machine.specs.Steps.{step_work}
 use Rattle.machine.specs.inside.Sound.{IsSound}
 use Rattle.machine.specs.inside.Layers.{state_in, AnswersBy, KeepsReserved}
 
--- the write-outs can make their next step: some aren't done, and no device call of one has failed
+-- The write-outs can make their next step: some are not done, and none of their device calls has failed.
 pub record CanStep {D Z : Type 0} (seen : D → List ℕ) (m : Layers D Z) : Type 0 where
   pub sound : IsSound (state_in m)
   pub long : 4096 * block_count m.table ≤ length (seen m.device)
   pub whole : m.write_outs.broken ≡ false
   pub some : m.write_outs.batches ≢ []
 
--- a step of the write-outs, by the rules for whichever processor may make it, and with the device calls of its work
+-- A step of the write-outs. It obeys the rules for any processor that may make it, and makes the device calls of its
+-- work.
 pub record IsStepped {D Z : Type 0} (disk : Ghosts D) (old : Layers D Z) (reply : Reply) (new : Layers D Z)
     : Type 0 where
   pub rules : (p : ℕ) → reason_against (state_in old) p acts.Flush ≡ None
@@ -41,7 +42,7 @@ pub record IsStepped {D Z : Type 0} (disk : Ghosts D) (old : Layers D Z) (reply 
   pub did : Did disk old.device (step_work (state_in old) acts.Flush reply) (not (has_failed reply)) new.device
   pub kept : KeepsReserved old new
 
--- the mark of an answer has 32 bits
+-- An answer's mark has 32 bits.
 abbrev pub HasSmallMark : Flushed → Type 0
 HasSmallMark (flushed.Committed mark) = mark < 2 ^ 32
 HasSmallMark (flushed.Done mark) = mark < 2 ^ 32
@@ -54,21 +55,21 @@ reply_of_flush (flushed.Done mark) = Ok (replies.Done mark)
 reply_of_flush flushed.Device = Err refusals.Device
 reply_of_flush flushed.Broken = Err refusals.Broken
 
--- the page whose bytes a step is given is in memory
+-- If the bytes for the step come from a page, that page is in memory.
 abbrev pub IsThere : FramesState → Source → Type 0
 IsThere memory (sources.Block block) = Unit {0}
 IsThere memory (sources.Page page) = is_in_memory memory page ≡ true
 
--- the bytes that a step is given
+-- The bytes for the step.
 abbrev pub bytes_from : FramesState → Source → List ℕ
 bytes_from memory (sources.Block block) = block.now
 bytes_from memory (sources.Page page) = bytes_at_mark memory page
 
--- the first frozen page
+-- The first frozen page.
 abbrev pub first_frozen : CheckpointState → FilePage
 first_frozen c = Rattle.std.specs.Prelude.slice_index_or c.frozen 0 (record { file = 0; page = 0 })
 
--- the frames and the frozen pages after a step that writes a record or doesn't
+-- The frames and the frozen pages after a step. `writes` is true if the step writes the record of a page.
 abbrev pub released_memory : Bool → CheckpointState → FramesState → FramesState
 released_memory true c memory = without_copy_of memory (first_frozen c)
 released_memory false c memory = memory

@@ -1,4 +1,4 @@
--- What the proofs about runs carry from step to step.
+-- The facts that the proofs about runs carry from step to step.
 use Rattle.std.specs.Prelude.{List}
 use Rattle.device.specs.declared.device.Device.{Ghosts}
 use Rattle.volume_codec.specs.Files.{File}
@@ -11,7 +11,7 @@ use Rattle.machine.specs.Crashes.{Begins, StepIsSafe, Throughout}
 use Rattle.machine.specs.Steps.{observed_first}
 use Rattle.machine.specs.inside.Refining.{Refines}
 
--- the laws hold of a run so far, and its machine and device agree with what is observed of it
+-- The laws hold of the run until now. Its machine and device agree with the observed state.
 pub record Follows {D : Type 0} (disk : Ghosts D) (files : List File) (start : Whole D) (steps : List Step)
     (replies : List Reply) (now : Whole D) : Type 0 where
   pub begins : Begins disk files start

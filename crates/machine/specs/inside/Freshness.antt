@@ -1,4 +1,4 @@
--- What tells a machine that was just made.
+-- How a machine that was just made is recognized.
 use Rattle.std.specs.Prelude.{◌≡◌, true, false, not, ◌&&◌, length}
 use Rattle.std.specs.List.{All}
 use Rattle.std.specs.FinMap as maps
@@ -9,7 +9,7 @@ use Rattle.journal.specs.WriteOuts.{none_of}
 use Rattle.machine.specs.declared.act.Shape.{Shape}
 use Rattle.machine.specs.State.{State}
 
--- how many processors, TLB entries, frames and copy frames a machine has
+-- A machine's numbers of processors, TLB entries, frames and copy frames.
 abbrev pub shape_of : State → Shape
 shape_of s = record {
   cpus = length s.hardware.shootdown.processors;
@@ -18,7 +18,7 @@ shape_of s = record {
   copies = length s.hardware.memory.copies;
 }
 
--- each layer is as it was made, and space 0 is alone
+-- Each layer is as it was made, and space 0 is the only space.
 pub record LooksFresh (s : State) : Type 0 where
   pub shootdown : s.hardware.shootdown
       ≡ fresh_shootdown (length s.hardware.shootdown.processors) (processor_at s.hardware.shootdown 0).tlb.capacity

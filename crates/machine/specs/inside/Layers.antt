@@ -1,4 +1,4 @@
--- How the code keeps a machine: its layers, and what private calls promise of them.
+-- How the code stores a machine: its layers, and what private calls ensure about them.
 use Rattle.std.specs.Prelude.{ℕ, ◌≡◌, ◌*◌, ◌≤◌, ◌<◌, List, [], ◌∷◌, length, Option, Some, None, Result, Ok, Err}
 use Rattle.page_entry.specs.declared.refusal.Refusal.{Refusal}
 use Rattle.page_entry.specs.declared.numbers.FilePage.{FilePage}
@@ -19,7 +19,7 @@ use Rattle.machine.specs.State.{State, Whole, cut_at_end}
 use Rattle.machine.specs.Refusals.{pages_in_file}
 use Rattle.machine.specs.inside.Sound.{IsSound}
 
--- the state of a machine with these layers
+-- The state of a machine with these layers.
 abbrev pub state_in : {D Z : Type 0} → Layers D Z → State
 state_in m = record {
   table = m.table;
@@ -34,60 +34,59 @@ state_in m = record {
 abbrev pub whole_in : {D Z : Type 0} → Layers D Z → Whole D
 whole_in m = record { state = state_in m; device = m.device }
 
--- the memory that a change needs is reserved
+-- The memory that a change needs is reserved.
 abbrev pub IsReserved : Change → Option (ℕ × PageRange × Option Rights) → Type 0
 IsReserved (Unmap pcid range) prepared = prepared ≡ Some (pcid, range, None)
 IsReserved (Protect pcid range rights) prepared = prepared ≡ Some (pcid, range, Some rights)
 IsReserved other prepared = Unit {0}
 
--- so is that of the change that is under way
+-- The memory for the change in progress is reserved.
 abbrev pub AreReserved : Option Lock → Option (ℕ × PageRange × Option Rights) → Type 0
 AreReserved held prepared = (lock : Lock) → held ≡ Some lock → IsReserved lock.change prepared
 
--- what holds of every machine: its state is sound, its device is long enough for its volume, and memory is reserved for
--- what is under way
+-- Facts that hold of every machine: its state is sound, its device is long enough for its volume, and memory is
+-- reserved for the change in progress.
 pub record AreLayers {D Z : Type 0} (seen : D → List ℕ) (m : Layers D Z) : Type 0 where
   pub sound : IsSound (state_in m)
   pub long : 4096 * block_count m.table ≤ length (seen m.device)
   pub reserved : AreReserved m.shootdown.lock m.spaces.prepared
 
--- an act leaves the device alone, and keeps what is reserved
+-- The act leaves the device unchanged, and keeps the reserved memory.
 pub record IsQuiet {D Z : Type 0} (old new : Layers D Z) : Type 0 where
   pub same_device : new.device ≡ old.device
   pub same_table : new.table ≡ old.table
   pub still_reserved : AreReserved old.shootdown.lock old.spaces.prepared
       → AreReserved new.shootdown.lock new.spaces.prepared
 
--- the page is one of a file of the table
+-- The page belongs to a file of the table.
 pub record IsPageOf (table : SuperValue) (owner : FilePage) : Type 0 where
   pub file : owner.file < length table.files
   pub page : owner.page < pages_in_file table.files owner.file
 
--- the page in a frame is clean, its batches are done, and nothing was stored past its file's end
+-- The page in a frame is clean, its batches are done, and nothing was stored past its file's end.
 pub record IsAtHome (s : State) (owner : FilePage) (frame : ℕ) : Type 0 where
   pub clean : IsDirty s.hardware.spaces s.checkpoint frame → ⊥
   pub written : HasBlock s.write_outs (home_of s.table owner) → ⊥
   pub plain : bytes_of (frame_at s.hardware.memory frame)
       ≡ cut_at_end s owner (bytes_of (frame_at s.hardware.memory frame))
 
--- an act keeps what is reserved, and the table
+-- The act keeps the reserved memory and the table.
 pub record KeepsReserved {D Z : Type 0} (old new : Layers D Z) : Type 0 where
   pub same_table : new.table ≡ old.table
   pub still_reserved : AreReserved old.shootdown.lock old.spaces.prepared
       → AreReserved new.shootdown.lock new.spaces.prepared
 
--- What is read of a device before a step and after it goes with rules, where the device is honest; of any other device,
--- some bytes do.
+-- Some bytes before and after a step obey the rules. If the device is honest, its own bytes do.
 pub record AnswersBy (honest : Type 0) (rules : List ℕ → List ℕ → Type 0) (disk disk' : List ℕ) : Type 0 where
   pub some_disk : (d d' : List ℕ) × rules d d'
   pub own_disk : honest → rules disk disk'
 
--- with a batch of these home blocks, if there are any
+-- The write-outs with a batch of these home blocks, if there are any.
 abbrev pub with_homes : WriteOutsValue → ℕ → List ℕ → WriteOutsValue
 with_homes outs mark [] = outs
 with_homes outs mark (home ∷ homes) = begun outs mark (home ∷ homes)
 
--- the reply to what an act is answered
+-- The reply for the answer of an act.
 abbrev pub reply_to : Result Reply Refusal → Reply
 reply_to (Ok reply) = reply
 reply_to (Err why) = replies.Refused why

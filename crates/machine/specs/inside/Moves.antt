@@ -1,4 +1,5 @@
--- What acts do to a machine, taken apart into moves: what each changes, and its effect on what is observed of a run.
+-- The effects of acts on a machine, divided into moves. For each move: what it changes, and its effect on the observed
+-- state.
 use Rattle.std.specs.Prelude.{ℕ, ◌≡◌, ◌≢◌, ◌<◌, ◌↔◌, ◌==◌, ◌||◌, Bool, true, false, List, [], ◌∷◌}
 use Rattle.std.specs.Prelude.{◌++◌, length, Option, Some, None, IsSome, slice_set, slice_get}
 use Rattle.std.specs.FinMap as maps
@@ -43,25 +44,25 @@ use Rattle.machine.specs.inside.Refining.{pending_in}
 -- ---- the effect of a move on what is observed
 
 pub data Effect : Type 0 where
-  -- nothing
+  -- No effect.
   Silent : Effect
-  -- processor p goes on from now on, or doesn't
+  -- Processor `p` is running from now on, or no longer is.
   Running : (p : ℕ) (goes : Bool) → Effect
-  -- processor p is in another space
+  -- Processor `p` enters another space.
   Entering : (p space : ℕ) → Effect
-  -- the places of a space change so, or a space is made with them
+  -- The places of a space change, or a space with these places is made.
   Mapping : (space : ℕ) (change : Places → Places) → Effect
-  -- a space is gone
+  -- A space is removed.
   Leaving : (space : ℕ) → Effect
-  -- processor p begins a change
+  -- Processor `p` begins a change.
   Beginning : (p : ℕ) (pending : Option Pending) → Effect
-  -- processor p ends its change, and with `Changing` its unmap or protect takes effect
+  -- Processor `p` ends its change. With `Changing`, the pending unmap, protect or change of a length takes effect.
   Ending : (p : ℕ) → Effect
   Changing : (p : ℕ) → Effect
-  -- processor p stored these bytes
+  -- Processor `p` stored these bytes.
   Storing : (p va : ℕ) (bytes : List ℕ) → Effect
 
--- what is observed after it
+-- The observed state after the effect.
 abbrev pub after_effect : Observed → Effect → Observed
 after_effect observed Silent = observed
 after_effect observed (Running p goes) = with_running observed p goes
@@ -80,7 +81,7 @@ after_effects observed (effect ∷ more) = after_effects (after_effect observed 
 
 -- ---- processors
 
--- processor p is x from now on, and this is the effect
+-- Processor `p` becomes `x`, and this is the effect.
 abbrev pub IsProcessorObserved : ShootdownState → ℕ → Processor → Effect → Type 0
 IsProcessorObserved s p x Silent = (x.space ≡ current s p) × (is_running x.state ≡ is_running (state_of s p))
 IsProcessorObserved s p x (Running q goes) = (q ≡ p) × (x.space ≡ current s p) × (is_running x.state ≡ goes)
@@ -88,7 +89,7 @@ IsProcessorObserved s p x (Entering q space) =
     (q ≡ p) × (x.space ≡ space) × (is_running x.state ≡ is_running (state_of s p))
 IsProcessorObserved s p x effect = ⊥
 
--- one processor is another, in a space that is there
+-- One processor is replaced, and its current space exists.
 pub record ReplacesProcessor (s : State) (effect : Effect) (new : State) : Type 0 where
   pub p : ℕ
   pub x : Processor
@@ -101,12 +102,12 @@ pub record ReplacesProcessor (s : State) (effect : Effect) (new : State) : Type 
 
 -- ---- spaces
 
--- the spaces map what these map
+-- Both map the same places.
 pub record SamePlaces (old new : Spaces) : Type 0 where
   pub there : (q : ℕ) → has_space new q ≡ has_space old q
   pub places : (q : ℕ) → (space_at new q).places ≡ (space_at old q).places
 
--- the places of one space change so, or it is made with them; other spaces map what they mapped
+-- The places of one space change, or the space is made with them. Other spaces keep their places.
 pub record ChangesPlaces (space : ℕ) (change : Places → Places) (old new : Spaces) : Type 0 where
   pub there : (q : ℕ) → has_space new q ≡ (q == space || has_space old q)
   pub here : (space_at new space).places ≡ change (space_at old space).places
@@ -117,17 +118,18 @@ AreSpacesObserved Silent old new = SamePlaces old new
 AreSpacesObserved (Mapping space change) old new = ChangesPlaces space change old new
 AreSpacesObserved effect old new = ⊥
 
--- only files of the table are mapped
+-- Only files of the table are mapped.
 abbrev pub AreInTable : State → Spaces → Type 0
 AreInTable s spaces =
     (pcid page : ℕ) (place : Place) → place_at spaces pcid page ≡ Some place → place.file < length s.table.files
 
--- the same frames are dirty by these entries and notes
+-- The same frames are dirty by these entries and notes.
 abbrev pub SameDirty : State → Spaces → CheckpointState → Type 0
 SameDirty s spaces checkpoint =
     (frame : ℕ) → IsDirty s.hardware.spaces s.checkpoint frame ↔ IsDirty spaces checkpoint frame
 
--- other spaces, which no change that is under way depends on, and with which the processors cohere
+-- The spaces are replaced. The change in progress remains prepared, and the processors are coherent with the new
+-- spaces.
 pub record ReplacesSpaces (s : State) (spaces : Spaces) (effect : Effect) (new : State) : Type 0 where
   pub are_spaces : AreSpaces spaces
   pub coheres : Coheres spaces s.hardware.shootdown
@@ -137,7 +139,7 @@ pub record ReplacesSpaces (s : State) (spaces : Spaces) (effect : Effect) (new :
   pub observed : AreSpacesObserved effect s.hardware.spaces spaces
   pub done : new ≡ with_spaces s spaces
 
--- a space is destroyed
+-- A space is destroyed.
 pub record DestroysSpace (s : State) (effect : Effect) (new : State) : Type 0 where
   pub p : ℕ
   pub pcid : ℕ
@@ -147,11 +149,11 @@ pub record DestroysSpace (s : State) (effect : Effect) (new : State) : Type 0 wh
 
 -- ---- changes
 
--- processor p may begin a change
+-- Processor `p` may begin a change.
 pub record CanBegin (s : State) (p : ℕ) (change : Change) : Type 0 where
   pub free : not_free s.hardware.shootdown p ≡ None
   pub prepared : IsPrepared s change
-  -- no checkpoint is begun of a broken machine
+  -- A broken machine begins no checkpoint.
   pub whole : change ≡ Checkpoint → s.write_outs.broken ≡ false
 
 pub record BeginsChange (s : State) (effect : Effect) (new : State) : Type 0 where
@@ -162,7 +164,7 @@ pub record BeginsChange (s : State) (effect : Effect) (new : State) : Type 0 whe
   pub effect_is : effect ≡ Beginning p (pending_in (Some change))
   pub done : new ≡ begin_change s p change
 
--- what the end of a change does to places, and its effect
+-- The effect of the end of a change on places, and its effect on the observed state.
 abbrev pub effect_of : Change → Effect
 effect_of (Unmap pcid range) = Mapping pcid (λ places. without_range places range.first range.count)
 effect_of (Protect pcid range rights) = Mapping pcid (λ places. with_rights places range.first range.count rights)
@@ -177,14 +179,14 @@ ending_of p (Reclaim owner) = Ending p
 ending_of p (SetLength file to) = Changing p
 ending_of p Checkpoint = Ending p
 
--- a change that leaves lengths alone is made by the processor that began it
+-- The processor that began a change makes it. The change does not concern a length.
 pub record MakesChange (s : State) : Type 0 where
   pub p : ℕ
   pub change : Change
   pub same_lengths : (file to : ℕ) → change ≢ SetLength file to
   pub may : MayChange s p change
 
--- it ends, and with it entries change that it affects; frames stay
+-- The change ends. Only entries that it affects change, and frames are unchanged.
 pub record EndsChange (s : State) (effect : Effect) (new : State) : Type 0 where
   pub made : MakesChange s
   pub open made use *
@@ -206,7 +208,7 @@ pub record EndsChange (s : State) (effect : Effect) (new : State) : Type 0 where
 
 -- ---- frames
 
--- bytes are stored in a page
+-- Bytes are stored in a page.
 pub record StoresBytes (s : State) (effect : Effect) (new : State) : Type 0 where
   pub p : ℕ
   pub va : ℕ
@@ -216,13 +218,13 @@ pub record StoresBytes (s : State) (effect : Effect) (new : State) : Type 0 wher
   pub effect_is : effect ≡ Storing p va bytes
   pub done : new ≡ with_hardware s hardware
 
--- a page that isn't in memory is read into a free frame
+-- A page that is not in memory is read into a free frame.
 pub record BringsPage (disk : List ℕ) (s : State) (effect : Effect) (new : State) : Type 0 where
   pub owner : FilePage
   pub frame : ℕ
   pub in_file : IsInFile s owner
   pub absent : is_in_memory s.hardware.memory owner ≡ false
-  -- a broken machine reads none
+  -- A broken machine reads no page.
   pub whole : s.write_outs.broken ≡ false
   pub unlocked : s.hardware.shootdown.lock ≡ None
   pub free : slice_get s.hardware.memory.frames frame ≡ Some None
@@ -230,7 +232,7 @@ pub record BringsPage (disk : List ℕ) (s : State) (effect : Effect) (new : Sta
   pub done : new ≡ with_hardware s
       (record s.hardware { memory = with_page s.hardware.memory frame owner (page_from s disk owner) })
 
--- a page that is held is copied
+-- A held page is copied.
 pub record CopiesPage (s : State) (effect : Effect) (new : State) : Type 0 where
   pub owner : FilePage
   pub frame : ℕ
@@ -241,7 +243,7 @@ pub record CopiesPage (s : State) (effect : Effect) (new : State) : Type 0 where
   pub effect_is : effect ≡ Silent
   pub done : new ≡ with_hardware s (record s.hardware { memory = with_copy s.hardware.memory copy frame })
 
--- a page leaves memory, while the lock is free
+-- A page leaves memory while the lock is free.
 pub record DropsPage (s : State) (effect : Effect) (new : State) : Type 0 where
   pub owner : FilePage
   pub frame : ℕ
@@ -254,7 +256,7 @@ pub record DropsPage (s : State) (effect : Effect) (new : State) : Type 0 where
 
 -- ---- moves
 
--- one of them; the disk is what a read of the device gives
+-- One of the moves. `disk` is what a read of the device returns.
 pub data Move (disk : List ℕ) (s : State) (effect : Effect) (new : State) : Type 0 where
   Replace : ReplacesProcessor s effect new → Move disk s effect new
   Remap : (spaces : Spaces) → ReplacesSpaces s spaces effect new → SameDirty s spaces s.checkpoint
@@ -267,14 +269,14 @@ pub data Move (disk : List ℕ) (s : State) (effect : Effect) (new : State) : Ty
   Copy : CopiesPage s effect new → Move disk s effect new
   Drop : DropsPage s effect new → Move disk s effect new
 
--- one after the other
+-- Moves in sequence.
 abbrev pub Moves : List ℕ → State → List Effect → State → Type 0
 Moves disk s [] new = new ≡ s
 Moves disk s (effect ∷ more) new = (mid : State) × Move disk s effect mid × Moves disk mid more new
 
 -- ---- acts
 
--- an act of moves: it asks nothing of the device but reads, and its effects are theirs
+-- The act consists of moves. It makes no device call except reads, and its effects are those of the moves.
 pub record IsMoved (s : State) (disk : List ℕ) (p : ℕ) (act : Act) (reply : Reply) (new : State) (disk' : List ℕ)
     : Type 0 where
   pub effect : List Effect
@@ -284,7 +286,7 @@ pub record IsMoved (s : State) (disk : List ℕ) (p : ℕ) (act : Act) (reply : 
   pub no_work : step_work s act reply ≡ Nothing
   pub same_disk : disk' ≡ disk
 
--- the reply to what a step of the write-outs answers
+-- The reply for the answer of a write-outs' step.
 abbrev pub reply_to : Answer → Reply
 reply_to flushed.Going = replies.Going
 reply_to (flushed.Committed mark) = replies.Committed mark
@@ -292,14 +294,14 @@ reply_to (flushed.Done mark) = replies.Done mark
 reply_to flushed.Device = replies.Refused refusals.Device
 reply_to flushed.Broken = replies.Refused refusals.Broken
 
--- a step of the write-outs was made, and this is the reply to what it answers
+-- A step of the write-outs was made, and `reply` is the reply for its answer.
 pub record HasStepped (s : State) (disk : List ℕ) (p : ℕ) (reply : Reply) (new : State) (disk' : List ℕ)
     : Type 0 where
   pub answered : reply ≡ reply_to (next_answer s.write_outs)
   pub made : FlushMade s disk p (next_answer s.write_outs) new disk'
 
--- what an act does: it moves, makes a mark, changes a length, goes on with the write-outs, or meets a device call that
--- fails there
+-- The effect of an act. It makes moves, makes a mark, changes a length, or makes a step of the write-outs, in which a
+-- device call may fail.
 pub data Performed (s : State) (disk : List ℕ) (p : ℕ) (act : Act) (reply : Reply) (new : State) (disk' : List ℕ)
     : Type 0 where
   Moved : IsMoved s disk p act reply new disk' → Performed s disk p act reply new disk'

@@ -1,4 +1,4 @@
--- What holds of every machine's state: the facts of its layers, and those that tie them to each other.
+-- Facts that hold of every machine's state: those of its layers, and those that connect the layers.
 use Rattle.std.specs.Prelude.{ℕ, ◌≡◌, ◌≢◌, ◌+◌, ◌^◌, ◌<◌, ◌≤◌, ◌⊎◌, true, false, List}
 use Rattle.std.specs.Prelude.{[], ◌∷◌, length, map, Some, None, IsSome, slice_index_or}
 use Rattle.std.specs.List.{All}
@@ -26,7 +26,7 @@ use Rattle.machine.specs.State.{State, capacity_of, length_of}
 use Rattle.machine.specs.Refusals.{pages_in_file, lacks_last_page, lacks_frames}
 use Rattle.machine.specs.Durability.{IsInFile, frozen_homes}
 
--- frames and copies in use have whole pages, and each page of a file is in one frame and one copy at most
+-- Frames and copies in use contain whole pages. Each page of a file is in at most one frame and at most one copy.
 pub record IsMemory (memory : FramesState) : Type 0 where
   pub frames_whole : (frame : ℕ) → IsSome (frame_at memory frame) → length (bytes_of (frame_at memory frame)) ≡ 4096
   pub copies_whole : (copy : ℕ) (kept : Frame) → slice_index_or memory.copies copy None ≡ Some kept
@@ -35,14 +35,14 @@ pub record IsMemory (memory : FramesState) : Type 0 where
   pub one_copy : (a b : ℕ) (x y : Frame) → slice_index_or memory.copies a None ≡ Some x
       → slice_index_or memory.copies b None ≡ Some y → x.page ≡ y.page → a ≡ b
 
--- each of these batches but the newest is committed
+-- Each of these batches except the newest is committed.
 abbrev pub AreOlderCommitted : List WriteOut → Type 0
 AreOlderCommitted [] = Unit {0}
 AreOlderCommitted (w ∷ []) = Unit {0}
 AreOlderCommitted (w ∷ next ∷ newer) = (has_committed w ≡ true) × AreOlderCommitted (next ∷ newer)
 
--- the length of a file may become this one: the layout has a block for lengths, the file is there and has room for it,
--- each batch is done, and what a growth needs is in memory or free
+-- The length of a file may become `to`. The layout has a block for lengths, the file exists and has space for the
+-- length, and each batch is done. The memory that a growth needs is present or free.
 pub record IsResizable (s : State) (file to : ℕ) : Type 0 where
   pub block : 0 < lengths_blocks s.table.layout
   pub there : file < length s.table.files
@@ -53,7 +53,7 @@ pub record IsResizable (s : State) (file to : ℕ) : Type 0 where
   pub resident : lacks_last_page s file to ≡ false
   pub room : lacks_frames s file to ≡ false
 
--- what a change that is under way may rely on
+-- What a change in progress may rely on.
 abbrev pub IsPrepared : State → Change → Type 0
 IsPrepared s (Unmap pcid range) = (is_user_space s.hardware.spaces pcid ≡ true) × (is_user_range range ≡ true)
 IsPrepared s (Protect pcid range rights) =
@@ -67,40 +67,40 @@ IsPrepared s Checkpoint = (s.marks + 1 < 2 ^ 32) × (s.write_outs.broken ≡ fal
 
 -- ---- facts that depend on the processors and the page tables
 
--- they go with each other, and with the table of a volume
+-- The page tables and the processors agree with each other, and with the table of a volume.
 pub record AreTablesSound (table : SuperValue) (m : Spaces) (x : ShootdownState) : Type 0 where
   pub spaces : AreSpaces m
   pub shootdown : IsShootdown x
   pub coheres : Coheres m x
-  -- each processor is in a space that is there
+  -- Each processor is in an existing space.
   pub current : (p : ℕ) → p < length x.processors → has_space m (current x p) ≡ true
-  -- only files of the table are mapped
+  -- Only files of the table are mapped.
   pub in_table : (pcid page : ℕ) (place : Place) → place_at m pcid page ≡ Some place → place.file < length table.files
 
 pub record AreSpacesSound (s : State) : Type 0 where
   pub tables : AreTablesSound s.table s.hardware.spaces s.hardware.shootdown
   pub open tables use *
-  -- a change that is under way was judged
+  -- A change in progress was judged before it began.
   pub prepared : (lock : Lock) → s.hardware.shootdown.lock ≡ Some lock → IsPrepared s lock.change
 
 -- ---- facts that depend on the frames
 pub record IsMemorySound (s : State) : Type 0 where
   pub memory : IsMemory s.hardware.memory
   pub few_frames : length s.hardware.memory.frames ≤ max_frames s.table.layout s.table.slots
-  -- each page in memory begins before its file's end
+  -- Each page in memory begins before its file's end.
   pub in_files : (frame : ℕ) (owner : FilePage) → Holds s.hardware.memory frame owner → IsInFile s owner
-  -- entries of the page tables map frames that hold their pages, and let no store reach a held one
+  -- Entries of the page tables map frames that hold their pages, and permit no store to a held page.
   pub backed : AreBacked s.hardware.memory s.checkpoint s.hardware.spaces
-  -- notes are of frames in use
+  -- Only frames in use are noted.
   pub notes : length s.checkpoint.notes ≡ length s.hardware.memory.frames
   pub noted : (frame : ℕ) → is_noted s.checkpoint frame ≡ true → IsSome (frame_at s.hardware.memory frame)
-  -- frozen pages are in memory, and only they are copied
+  -- Frozen pages are in memory, and only they are copied.
   pub frozen : All (λ owner. is_in_memory s.hardware.memory owner ≡ true) s.checkpoint.frozen
   pub rising : AreRising s.checkpoint.frozen
   pub copied : (copy : ℕ) (kept : Frame) → slice_index_or s.hardware.memory.copies copy None ≡ Some kept
       → is_frozen s.checkpoint kept.page ≡ true
 
--- the home block of the lengths, or that of a page in memory
+-- The home block of the lengths, or of a page in memory.
 abbrev pub IsSource : SuperValue → FramesState → ℕ → Type 0
 IsSource table memory home =
     ((0 < lengths_blocks table.layout) × (home ≡ first_home table.layout table.slots))
@@ -109,22 +109,22 @@ IsSource table memory home =
 -- ---- facts that depend on the write-outs
 pub record AreWriteOutsSound (s : State) : Type 0 where
   pub geometry : s.write_outs.geometry ≡ geometry_of s.table
-  -- a batch in each journal at most
+  -- Each journal has at most one batch.
   pub few_batches : length s.write_outs.batches ≤ journals_of s.table.layout
   pub older : AreOlderCommitted s.write_outs.batches
   pub homes : All (λ w. AreHomes (geometry_of s.table) w.batch.homes) s.write_outs.batches
-  -- they are of lengths or of pages in memory
+  -- The batches' home blocks are those of the lengths or of pages in memory.
   pub sources : All (λ w. All (IsSource s.table s.hardware.memory) w.batch.homes) s.write_outs.batches
   pub marked : All (λ w. (0 < w.batch.mark) × (w.batch.mark ≤ s.marks)) s.write_outs.batches
   pub few_marks : s.marks < 2 ^ 32
-  -- lengths are set only where each batch is done, of a machine that isn't broken, in a layout with a block for them
+  -- Lengths are set only if each batch is done and the machine is not broken, in a layout with a block for lengths.
   pub quiescent : s.resized ≡ true
       → (s.write_outs.batches ≡ []) × (s.write_outs.broken ≡ false) × (0 < lengths_blocks s.table.layout)
   pub frozen : map (home_of s.table) s.checkpoint.frozen ≡ frozen_homes s
 
 pub record IsSound (s : State) : Type 0 where
   pub fits : Fits s.table
-  -- a length for each file, up to its capacity
+  -- Each file has a length, which is at most its capacity.
   pub lengths : length s.lengths ≡ length s.table.files
   pub within : (file : ℕ) → length_of s file ≤ capacity_of s file
   pub spaces : AreSpacesSound s

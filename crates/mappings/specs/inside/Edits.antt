@@ -19,14 +19,15 @@ below mapping page = record mapping { end = page }
 abbrev pub from_page : Mapping → ℕ → Mapping
 from_page mapping page = record mapping { first = page; place = place_in mapping page }
 
--- a mapping that has pages on both sides becomes two, which meet before the page
+-- The mappings after a split: the mapping that contains `page` and the page before it becomes two, of which the second
+-- begins at `page`.
 abbrev pub split_at : ℕ → List Mapping → List Mapping
 split_at page [] = []
 split_at page (mapping ∷ rest) =
     if nat_lt mapping.first page && nat_lt page mapping.end then below mapping page
     ∷ (from_page mapping page ∷ rest) else mapping ∷ split_at page rest
 
--- whether a mapping has no page from first up to end, if neither is inside it
+-- whether the mapping ends at or before `first`, or begins at or after `end`
 abbrev pub is_outside : ℕ → ℕ → Mapping → Bool
 is_outside first end mapping = nat_le mapping.end first || nat_le end mapping.first
 
@@ -38,17 +39,17 @@ part_below page mapping = if nat_lt mapping.first page then Some (below mapping 
 abbrev pub part_from : ℕ → Mapping → Option Mapping
 part_from page mapping = if nat_lt page mapping.end then Some (from_page mapping page) else None
 
--- with a mapping before the others, if there is one
+-- the mapping, if there is one, followed by the list
 abbrev pub put_first : Option Mapping → List Mapping → List Mapping
 put_first None rest = rest
 put_first (Some mapping) rest = mapping ∷ rest
 
--- with a mapping at a place, if there is one
+-- the list, with the mapping inserted at this index if there is one
 abbrev pub put_at : List Mapping → ℕ → Option Mapping → List Mapping
 put_at list at None = list
 put_at list at (Some mapping) = insert list at mapping
 
--- of each mapping the parts without the pages from first up to end
+-- the list without the pages from `first` up to `end`: of each mapping, the parts before and after these pages
 abbrev pub without_pages : ℕ → ℕ → List Mapping → List Mapping
 without_pages first end [] = []
 without_pages first end (mapping ∷ rest) =
@@ -59,40 +60,40 @@ without_pages first end (mapping ∷ rest) =
 abbrev pub given_rights : Rights → Mapping → Mapping
 given_rights rights mapping = record mapping { place = record mapping.place { rights = rights } }
 
--- the mapping with the rights, if it begins within first up to end
+-- the mapping, with the rights if its first page is from `first` up to `end`
 abbrev pub with_rights_within : ℕ → ℕ → Rights → Mapping → Mapping
 with_rights_within first end rights mapping =
     if nat_le first mapping.first && nat_lt mapping.first end then given_rights rights mapping else mapping
 
--- whether the mapping has some of the count pages from first on, of which there is one at least
+-- whether the mapping contains at least one of the `count` pages from `first` on (`count` isn't 0)
 abbrev pub meets : ℕ → ℕ → Mapping → Bool
 meets first count mapping = nat_lt first mapping.end && nat_lt mapping.first (first + count)
 
--- the pages of two mappings of which the second goes on where the first one ends
+-- the mapping with the pages of both, if `next` continues `before`
 abbrev pub joined : Mapping → Mapping → Mapping
 joined before next = record before { end = next.end }
 
--- the mapping and those after it, each two of which the second goes on where the first ends made one
+-- the mapping and those after it; neighbours that continue each other are joined to one mapping
 abbrev pub merged_onto : Mapping → List Mapping → List Mapping
 merged_onto mapping [] = mapping ∷ []
 merged_onto mapping (next ∷ rest) =
     if joins mapping next then merged_onto (joined mapping next) rest else mapping ∷ merged_onto next rest
 
--- one mapping for each run of pages that go on
+-- the list, in which neighbours that continue each other are joined to one mapping
 abbrev pub merged : List Mapping → List Mapping
 merged [] = []
 merged (mapping ∷ rest) = merged_onto mapping rest
 
--- no mapping has pages on both sides of the page's begin
+-- No mapping contains both this page and the page before it.
 abbrev pub IsUncut : ℕ → List Mapping → Type 0
 IsUncut page [] = Unit {0}
 IsUncut page (mapping ∷ rest) = (mapping.first < page → mapping.end ≤ page) × IsUncut page rest
 
--- no mapping goes on where the one before it ends, but at these two pages
+-- No mapping continues the one before it, unless it begins at page `p` or `q`.
 abbrev pub IsMergedBut : ℕ → ℕ → List Mapping → Type 0
 IsMergedBut p q = Neighbours (λ before next. joins before next ≡ true → (next.first ≡ p) ⊎ (next.first ≡ q))
 
--- a mapping of the list has pages on both sides of the page's begin
+-- This mapping of the list contains both this page and the page before it.
 pub record IsAround (list : List Mapping) (page : ℕ) (mapping : Mapping) : Type 0 where
   pub at : ℕ
   pub within : at < length list
@@ -100,7 +101,8 @@ pub record IsAround (list : List Mapping) (page : ℕ) (mapping : Mapping) : Typ
   pub below : mapping.first < page
   pub above : page < mapping.end
 
--- the new list maps what the old one does, by mappings that lie within the count pages from first on or outside them
+-- The new list maps the same pages to the same places. Each of its mappings is within the `count` pages from `first`
+-- on, or outside them. No mapping continues the one before it, unless it begins at either end of these pages.
 pub record IsSplit (old new : List Mapping) (first count : ℕ) : Type 0 where
   pub ordered : IsOrdered 0 new
   pub same_places : places_of new ≡ places_of old
@@ -108,18 +110,18 @@ pub record IsSplit (old new : List Mapping) (first count : ℕ) : Type 0 where
   pub uncut_end : IsUncut (first + count) new
   pub merged_but : IsMergedBut first (first + count) new
 
--- how many of the two ends of count pages from first on are within a mapping
+-- the number of ends of the `count` pages from `first` on that are within a mapping: 0, 1 or 2
 abbrev pub end_splits : Places → ℕ → ℕ → ℕ
 end_splits places first count =
     (if goes_on places first then 1 else 0) + (if goes_on places (first + count) then 1 else 0)
 
--- the pages from low up to high, where any of them is mapped, have the rights
+-- Each mapped page from `low` up to `high` has the rights.
 abbrev pub HaveRights : List Mapping → ℕ → ℕ → Rights → Type 0
 HaveRights list low high rights = (q : ℕ) (place : Place) → low ≤ q → q < high
     → fin_map.get (places_of list) q ≡ Some place → place.rights ≡ rights
 
--- the pages from first up to end, between which this one's begin is, have the rights, and a mapping goes on at first or
--- at end only where it has other rights at this page
+-- `page` is between `first` and `end`, and each mapped page from `first` up to `end` has the rights. A mapping
+-- continues across `first`, or across `end`, exactly if the rights cut a mapping at `page`.
 pub record HaveRightsAround (list : List Mapping) (page : ℕ) (rights : Rights) (first end : ℕ) : Type 0 where
   pub begins : first ≤ page
   pub ends : page ≤ end
@@ -128,8 +130,8 @@ pub record HaveRightsAround (list : List Mapping) (page : ℕ) (rights : Rights)
   pub cut_first : goes_on (places_of list) first ≡ is_cut (places_of list) page rights
   pub cut_end : goes_on (places_of list) end ≡ is_cut (places_of list) page rights
 
--- The range has more pages at either end, which have the rights already, and a mapping goes on from before its first
--- page or to the page after its last one only where it has other rights.
+-- `wide` is `range` with further pages at either end. Setting the rights in `wide` has the same result as setting them
+-- in `range`. A mapping continues across an end of `wide` exactly if the rights cut a mapping at that end of `range`.
 pub record IsWidened (list : List Mapping) (range : PageRange) (rights : Rights) (wide : PageRange) : Type 0 where
   pub begins : wide.first ≤ range.first
   pub ends : range.first + range.count ≤ wide.first + wide.count

@@ -1,4 +1,4 @@
--- What a present entry says by one bit: which bit it is, what an entry says by it, and the entry with it set or clear.
+-- The flags of a present entry: the bit of each flag, its value in an entry, and the entry with the flag set or clear.
 use Rattle.std.specs.Prelude.{ℕ, Bool, Option}
 use Rattle.page_entry.specs.Entry.{Mapped, is_writable, is_accessed, is_dirty}
 use Rattle.page_entry.specs.Entry.{with_writable_of, with_accessed_of, with_dirty_of}

@@ -1,4 +1,4 @@
--- What is done to the entries of a range.
+-- How a change affects the entries of a range.
 use Rattle.std.specs.Prelude.{ℕ, ◌≡◌, false, if◌then◌else◌, Option, Some, None}
 use Rattle.std.specs.Ordering.{nat_cmp}
 use Rattle.std.specs.FinMap as maps
@@ -7,19 +7,19 @@ use Rattle.page_table.specs.Table.{TableState, in_range, protected_if}
 use Rattle.page_table.specs.declared.change.Change.{Change}
 use Rattle.page_table.specs.declared.change.Change.TheVariants.{Clear, MakeReadOnly, Protect}
 
--- what a change leaves of an entry
+-- the entry after a change
 abbrev pub changed_by : Change → Option Mapped → Option Mapped
 changed_by Clear entry = None
 changed_by MakeReadOnly entry = with_writable_of entry false
 changed_by (Protect marked) None = None
 changed_by (Protect marked) (Some entry) = Some (protected_if marked.now entry)
 
--- what a change leaves of an entry's bits
+-- the entry's bits after a change
 abbrev pub changed_bits : Change → ℕ → ℕ
 changed_bits change bits = bits_of (changed_by change (entry_of bits))
 
--- the new table differs from the old one by its entries alone, which are any entries that read page by page as the old
--- ones do, those of the range after the change
+-- The new table differs from the old one only in its entries. They are equal to any map with these entries: in the
+-- range, the old entries after the change; elsewhere, the old entries.
 abbrev pub ChangesRange : Change → ℕ → ℕ → TableState → TableState → Type 0
 ChangesRange change start end old new = (entries : maps.FinMap nat_cmp Mapped)
     → ((page : ℕ) → maps.get entries page

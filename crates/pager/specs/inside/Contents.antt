@@ -1,4 +1,4 @@
--- Home blocks that have the files after a history of calls.
+-- Home blocks that contain the files after a history of calls.
 use Rattle.std.specs.Prelude.{ℕ, ◌≡◌, ◌<◌, ◌≤◌, List, length, unwrap_or}
 use Rattle.volume_codec.specs.Files.{File}
 use Rattle.volume_codec.specs.Layout.{first_file_home}
@@ -8,11 +8,11 @@ use Rattle.history.specs.History.{Event, memory_of, after, lengths_of, lengths_a
 use Rattle.history.specs.inside.Contents.{HasParts}
 use Rattle.kept_blocks.specs.Blocks.{Blocks, bytes_in}
 
--- the home blocks as they are once these are written
+-- the contents of the home blocks after these blocks are written
 abbrev pub written_over : Blocks → (ℕ → List ℕ) → ℕ → List ℕ
 written_over blocks contents b = unwrap_or (bytes_in blocks b) (contents b)
 
--- the contents have the files after a history that began with these files, with the lengths after it
+-- The home blocks contain the files as they are after the history, with their lengths. `files` are those before it.
 pub record HaveFiles (files : List File) (table : SuperValue) (contents : ℕ → List ℕ) (history : List Event)
     : Type 0 where
   pub whole : (file page : ℕ) → length (after (memory_of files) history file page) ≡ 4096

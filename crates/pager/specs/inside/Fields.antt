@@ -1,4 +1,4 @@
--- What contracts see of a pager's fields.
+-- The state of a pager with these fields, as contracts name it.
 use Rattle.pager.specs.State.{PagerState}
 use Rattle.pager.specs.declared.pager.Pager.TheInside.{Inside}
 

@@ -8,14 +8,14 @@ use Rattle.volume_codec.specs.Descriptor.{RiseWithin}
 use Rattle.kept_blocks.specs.Blocks.{Blocks, homes_in, bytes_in}
 use Rattle.pager.specs.State.{PagerState, file_length, reserved}
 
--- no page past its file's end is put
+-- No page past its file's end is put.
 abbrev pub EndsWithin : SuperValue → List ℕ → Blocks → Type 0
 EndsWithin table lengths staged = (file home : ℕ)
     → first_home_of table file + pages_of (file_length lengths file) ≤ home → home < first_home_of table (file + 1)
     → bytes_in staged home ≡ None
 
--- The device is long enough for the volume, each file has a length, what was put lies before its file's end and fits a
--- commit, each write-out has its blocks, and no mark is above the number of marks.
+-- The device is long enough for the volume, and each file has a length. The put blocks are not past their files' ends,
+-- and fit in one commit. Each write-out has its blocks, and no write-out's mark is above the number of marks.
 pub record IsSound {D : Type 0} (seen : D → List ℕ) (s : PagerState D) : Type 0 where
   pub fits : Fits s.table
   pub long : 4096 * block_count s.table ≤ length (seen s.device)
@@ -29,7 +29,7 @@ pub record IsSound {D : Type 0} (seen : D → List ℕ) (s : PagerState D) : Typ
   pub few_batches : length s.write_outs.batches ≤ journals_of s.table.layout
   pub marked : AllByRecursion (λ w. w.batch.mark ≤ s.marks) s.write_outs.batches
 
--- and it has memory for a list of blocks for each journal, and for the numbers of a commit's blocks
+-- The pager is sound. It has memory for a list of blocks for each journal, and for the numbers of a commit's blocks.
 pub record IsPager {D : Type 0} (seen : D → List ℕ) (s : PagerState D) (list_room home_room : ℕ) : Type 0 where
   pub sound : IsSound seen s
   pub lists : journals_of s.table.layout ≤ list_room

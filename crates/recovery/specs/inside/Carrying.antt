@@ -1,4 +1,4 @@
--- What carrying out open batches, one after another, does to a device.
+-- How a device changes when open batches are carried out, one after another.
 use Rattle.std.specs.Prelude.{◌≡◌, ◌≢◌, ℕ, List, [], slice_index, Result, OnOk}
 use Rattle.std.specs.List.{AllByRecursion}
 use Rattle.device.specs.Device.{LeavesOnly}
@@ -10,13 +10,13 @@ use Rattle.journal.specs.Finished.{IsOutside, gate_byte, HoldsVolume, RecoversSa
 use Rattle.recovery.specs.Counts.{Rises, RisesWithin}
 use Rattle.recovery.specs.inside.Reading.{carry_calls}
 
--- the gates of these batches are closed by the byte 0, and every byte outside home blocks but these is as before
+-- The gates of these batches are closed with the byte 0. Every other byte outside home blocks is as before.
 pub record AreShut (g : GeometryValue) (batches : List Batch) (old new : List ℕ) : Type 0 where
   pub gates : AllByRecursion (λ batch. slice_index new (gate_byte g.slots batch) ≡ 0) batches
   pub others : (i : ℕ) → IsOutside g i → AllByRecursion (λ batch. i ≢ gate_byte g.slots batch) batches
       → slice_index new i ≡ slice_index old i
 
--- of all these batches the oldest are done, and these wait
+-- Of `all` batches, the oldest were carried out (`done`), and the others are `waiting`.
 pub record IsCarrying {D : Type 0} (disk : Ghosts D) (g : GeometryValue) (all waiting done : List Batch) (start now : D)
     : Type 0 where
   pub held : (v : SuperValue) (contents : ℕ → List ℕ) → geometry_of v ≡ g → HoldsVolume disk v all contents start
@@ -26,7 +26,7 @@ pub record IsCarrying {D : Type 0} (disk : Ghosts D) (g : GeometryValue) (all wa
   pub shut : disk.is_honest start → AreShut g done (disk.seen start) (disk.seen now)
   pub calls : Rises (carry_calls done) (disk.calls_made start) (disk.calls_made now)
 
--- these batches were carried out, the oldest first, or a device call failed
+-- These batches were carried out, the oldest first, or a device call failed.
 pub record CarriesOut {D T E : Type 0} (disk : Ghosts D) (g : GeometryValue) (batches : List Batch) (old : D)
     (result : Result T E) (new : D) : Type 0 where
   pub done : OnOk result (IsCarrying disk g batches [] batches old new)

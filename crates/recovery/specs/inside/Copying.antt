@@ -1,4 +1,4 @@
--- What laying out a volume for another one's files does.
+-- The effect of laying out a volume for the files of another volume.
 use Rattle.std.specs.Prelude.{◌⊎◌, ℕ, ◌-◌, ◌*◌, List, length}
 use Rattle.device.specs.Device.{TornFrom}
 use Rattle.device.specs.declared.device.Device.{Ghosts}
@@ -6,8 +6,8 @@ use Rattle.volume_codec.specs.Files.{AskedFile}
 use Rattle.volume_codec.specs.Super.{SuperValue, block_count}
 use Rattle.recovery.specs.Format.{HasShape}
 
--- what a crash leaves while a volume of a layout is laid out: what it might have left before, with other bytes in the
--- volume's blocks but block 0
+-- A crash may leave `c` while a volume of a layout is laid out. `c` is what a crash might have left before, perhaps
+-- with other bytes in the volume's blocks except block 0.
 abbrev pub LeftByLaying : {E : Type 0} → Ghosts E → ℕ → List AskedFile → ℕ → E → List ℕ → Type 0
 LeftByLaying other layout files slots before c = other.may_leave before c
     ⊎ ((table : SuperValue) × HasShape layout files slots (length (other.seen before)) table

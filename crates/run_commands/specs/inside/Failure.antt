@@ -3,7 +3,7 @@ use Rattle.std.specs.Prelude.{ℕ, ◌≡◌}
 use Rattle.command_parts.specs.declared.failure.Failure.{Failure}
 use Rattle.command_parts.specs.declared.failure.Failure.TheVariants.{Step}
 
--- the step of this number was answered that the device failed
+-- The failure is that of the step with this number, whose reply reports a device failure.
 abbrev pub IsFailedStep : Failure → ℕ → Type 0
 IsFailedStep (Step path step) number = step ≡ number
 IsFailedStep _ number = ⊥

@@ -1,4 +1,4 @@
--- What is printed before the first request of a session, and what after it.
+-- The output before the first request of a session, and the output after it.
 use Rattle.std.specs.Prelude.{ℕ, List, [], ◌∷◌, ◌++◌, codes, length, string_bytes, Option}
 use Rattle.std.specs.Fmt.{decimal}
 use Rattle.std.specs.Io.KnownBytes.{Appends}
@@ -9,7 +9,7 @@ use Rattle.session.specs.declared.files.FileLine.{FileLine}
 use Rattle.session.specs.declared.notes.Notes.{Notes}
 use Rattle.session.specs.Answers.{AnswersInput}
 
--- a line with the name and the length of a file, as it was opened
+-- a line with the name of a file and its length when it was opened
 abbrev pub file_text : {A : Type 0} → FileLine A → List ℕ
 file_text file = string_bytes file.name ++ 32 ∷ decimal file.length ++ 10 ∷ []
 
@@ -17,7 +17,7 @@ file_text file = string_bytes file.name ++ 32 ∷ decimal file.length ++ 10 ∷ 
 abbrev pub greeting_text : {A : Type 0} → List (FileLine A) → List ℕ
 greeting_text files = (codes "ready " ++ decimal (length files) ++ 10 ∷ []) ++ flat_map file_text files
 
--- The files were listed, and after them the answers to the lines of the input were written.
+-- The files were listed. Then the answers to the lines of the input were written.
 abbrev pub ListsAndAnswers : {A : Type 0} → List (FileLine A) → Notes → Option (List ℕ) → Option (List ℕ)
     → Option (List ℕ) → Option (List ℕ) → List Step → List Reply → Type 0
 ListsAndAnswers files before input rest old new steps replies =

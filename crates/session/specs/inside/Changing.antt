@@ -1,4 +1,4 @@
--- A change from its begin to its end.
+-- A change, from its beginning to its end.
 use Rattle.std.specs.Prelude.{ℕ, ◌≡◌, ◌≢◌, ◌<◌, Bool, true, false, List, None, Some}
 use Rattle.device.specs.declared.device.Device.{Ghosts}
 use Rattle.spaces.specs.declared.change.Change.{Change}
@@ -14,38 +14,39 @@ use Rattle.session.specs.declared.notes.Notes.{Notes}
 use Rattle.session.specs.Ranges.{MakesStepsThat}
 use Rattle.session.specs.Steps.{reports_reclaim, reports_mark}
 
--- the phase of a processor after the change that is under way
+-- the phase of a processor after the change in progress
 abbrev pub phase_after : ProcState → ProcState
 phase_after Interrupted = Active
 phase_after Initiating = Active
 phase_after phase = phase
 
--- processor p holds the lock for a change
+-- Processor p holds the lock for this change.
 abbrev pub HoldsLock : ℕ → Change → State → Type 0
 HoldsLock p change s = s.hardware.shootdown.lock ≡ Some (record { holder = p; change = change })
 
--- processor p began a change while the lock was free: after it each processor will be in the phase in which it was
+-- Processor p began this change while the lock was free. After the change, each processor will be in the phase in which
+-- it was before.
 pub record HasBegun (p : ℕ) (change : Change) (old new : State) : Type 0 where
   pub free : old.hardware.shootdown.lock ≡ None
   pub held : HoldsLock p change new
   pub phases : (q : ℕ) → phase_after (state_of new.hardware.shootdown q) ≡ state_of old.hardware.shootdown q
 
--- Steps were made of which this holds, and by the last one processor p began a change.
+-- Steps that satisfy `what` are made, and with them processor p begins a change.
 pub record BeginsChange {D : Type 0} (disk : Ghosts D) (old : Whole D) (before : Notes)
     (what : List Step → List Reply → Type 0) (p : ℕ) (change : Change) (new : Whole D) (after : Notes) : Type 0 where
   pub makes : MakesStepsThat disk old before what new after
   pub begins : HasBegun p change old.state new.state
 
--- none of the processors below a number is interrupted
+-- No processor with a number below `next` is interrupted.
 abbrev pub AreCalm : ℕ → State → Type 0
 AreCalm next s = (q : ℕ) → q < next → state_of s.hardware.shootdown q ≢ Interrupted
 
--- the change that was under way is over
+-- The change that was in progress is over: the lock is free, and each processor is in its phase after the change.
 pub record IsOver (old new : State) : Type 0 where
   pub lock : new.hardware.shootdown.lock ≡ None
   pub phases : (q : ℕ) → state_of new.hardware.shootdown q ≡ phase_after (state_of old.hardware.shootdown q)
 
--- that this change was made
+-- whether this change was made
 abbrev pub reports_made : Change → Reply → Bool
 reports_made (Unmap pcid range) Unmapped = true
 reports_made (Protect pcid range rights) Protected = true

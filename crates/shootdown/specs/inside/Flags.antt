@@ -4,6 +4,6 @@ use Rattle.std.specs.List.{range_with_len}
 use Rattle.page_table.specs.Bits.{is_set}
 use Rattle.shootdown.specs.Processors.{pcids}
 
--- the flags that these bits are, under a name of their own so that nobody computes all of them
+-- The flags that these bits represent. This is a definition of its own, so that proofs never compute all of them.
 unfoldable pub flags_of : List ℕ → List Bool
 flags_of words = map (is_set words) (range_with_len 0 pcids)

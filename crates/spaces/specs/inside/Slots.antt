@@ -1,4 +1,4 @@
--- How the spaces are kept: a slot for each PCID, with a space or none.
+-- How the spaces are stored: a slot for each PCID, with a space or without one.
 use Rattle.std.specs.Prelude.{ℕ, ◌≡◌, ◌≢◌, ◌⊎◌, ◌↔◌, ◌+◌, ◌≤◌, ◌<◌, Bool, true, false, not, is_some}
 use Rattle.std.specs.Prelude.{List, [], ◌∷◌, length, slice_index_or, Option, Some, None, IsSome, refl}
 use Rattle.std.specs.Option.{option_map}
@@ -19,7 +19,8 @@ use Rattle.mappings.specs.declared.place.Rights.{Rights}
 use Rattle.spaces.specs.Requests.{is_user_space}
 use Rattle.spaces.specs.Changes.{is_place_of}
 
--- one space: its entries and places, for how many further mappings room is reserved, and where its table has grown
+-- One space: its entries and places, and the number of further mappings with reserved room. The last two fields are the
+-- grown pages of its table, and the number of nodes.
 pub record SpaceState : Type 0 where
   pub entries : maps.FinMap nat_cmp Mapped
   pub places : Places
@@ -27,29 +28,29 @@ pub record SpaceState : Type 0 where
   pub grown : sets.FinSet nat_cmp
   pub nodes : ℕ
 
--- what a user of the spaces sees of it
+-- the space as users of the spaces see it
 abbrev pub space_of : SpaceState → AddressSpace
 space_of s = record { entries = s.entries; places = s.places }
 
--- the table has grown at each page of the range
+-- The table has grown at each page of the range.
 abbrev pub AreGrown : SpaceState → PageRange → Type 0
 AreGrown s range =
     (page : ℕ) → range.first ≤ page → page < range.first + range.count → sets.contains s.grown page ≡ true
 
--- the entry of each mapped page can be set without memory
+-- The entry of each mapped page can be set without more memory.
 abbrev pub HasRoom : TableState → MappingsState → Type 0
 HasRoom table mappings = (page : ℕ) → IsSome (maps.get mappings.places page) → is_grown table page ≡ true
 
--- what is in a slot; nothing past the last one
+-- the content of a slot, or `None` past the last slot
 abbrev pub slot_at : List (Option SpaceState) → ℕ → Option SpaceState
 slot_at slots pcid = slice_index_or slots pcid None
 
--- a slot's space with its PCID, before others
+-- the list with the PCID and the space of a slot in front, if the slot has a space
 abbrev pub with_slot : ℕ → Option SpaceState → List (ℕ × AddressSpace) → List (ℕ × AddressSpace)
 with_slot pcid None rest = rest
 with_slot pcid (Some s) rest = (pcid, space_of s) ∷ rest
 
--- the spaces in the slots, of which the first is that of this PCID
+-- the spaces in the slots, with their PCIDs; the first slot has the PCID `pcid`
 abbrev pub listed_from : ℕ → List (Option SpaceState) → List (ℕ × AddressSpace)
 listed_from pcid [] = []
 listed_from pcid (slot ∷ slots) = with_slot pcid slot (listed_from (pcid + 1) slots)
@@ -58,17 +59,17 @@ listed_from pcid (slot ∷ slots) = with_slot pcid slot (listed_from (pcid + 1) 
 unfoldable pub spaces_of : List (Option SpaceState) → Spaces
 spaces_of slots = maps.from_sorted (listed_from 0 slots)
 
--- the slot's space is that of this PCID
+-- The slot's space is the space with this PCID.
 pub record IsFound (map : Spaces) (pcid : ℕ) (s : SpaceState) : Type 0 where
   pub there : has_space map pcid ≡ true
   pub same : space_at map pcid ≡ space_of s
 
--- there is no space with this PCID
+-- There is no space with this PCID.
 pub record IsMissing (map : Spaces) (pcid : ℕ) : Type 0 where
   pub missing : has_space map pcid ≡ false
   pub nothing : space_at map pcid ≡ empty_space
 
--- the first slot without a space; there is a space in each of them where it is past the last one
+-- The slot is the first one without a space. If each slot has a space, it is the one past the last slot.
 pub record IsFirstFree (slots : List (Option SpaceState)) (at : ℕ) : Type 0 where
   pub within : at ≤ length slots
   pub free : slot_at slots at ≡ None
@@ -78,7 +79,7 @@ pub record IsFirstFree (slots : List (Option SpaceState)) (at : ℕ) : Type 0 wh
 abbrev pub edited : (SpaceState → maps.FinMap nat_cmp Mapped) → SpaceState → SpaceState
 edited f s = record s { entries = f s }
 
--- the entries of pages that don't map this page of a file
+-- the entries without those of pages that are mapped to this page of a file
 abbrev pub without_entries : Places → FilePage → maps.FinMap nat_cmp Mapped → maps.FinMap nat_cmp Mapped
 without_entries places page entries = maps.retain_keys entries (λ q. not (is_place_of page (maps.get places q)))
 
@@ -87,14 +88,14 @@ abbrev pub without_each : maps.FinMap nat_cmp Mapped → List ℕ → maps.FinMa
 without_each entries [] = entries
 without_each entries (page ∷ pages) = without_each (maps.remove entries page) pages
 
--- a user space has room for what one unmap of a range splits, or for what giving its pages the rights does
+-- A user space has room for the mappings that are split when the range is unmapped, or gets these rights.
 pub record IsPrepared (slots : List (Option SpaceState)) (pcid : ℕ) (range : PageRange)
     (rights : Option Rights) : Type 0 where
   pub user_space : is_user_space (spaces_of slots) pcid ≡ true
   pub user_range : is_user_range range ≡ true
   pub room : (s : SpaceState) → slot_at slots pcid ≡ Some s → splits s.places range rights ≤ s.spare
 
--- what the slots always keep
+-- An invariant of the slots.
 pub record AreSlots (slots : List (Option SpaceState))
     (prepared : Option (ℕ × PageRange × Option Rights)) : Type 0 where
   pub spaces : AreSpaces (spaces_of slots)
@@ -102,33 +103,33 @@ pub record AreSlots (slots : List (Option SpaceState))
   pub ready : (pcid : ℕ) (range : PageRange) (rights : Option Rights) → prepared ≡ Some (pcid, range, rights)
       → IsPrepared slots pcid range rights
 
--- a slot's space has no present entry, unless it is said to be in use
+-- If the slot's space has a present entry, `used` is true.
 abbrev pub HasUse : Option SpaceState → Bool → Type 0
 HasUse slot used = (s : SpaceState) (page : ℕ) (entry : Mapped) → slot ≡ Some s → maps.get s.entries page ≡ Some entry
     → used ≡ true
 
--- the bit of each slot whose space has a present entry is set
+-- The bit of each slot whose space has a present entry is set.
 abbrev pub AreInUse : List (Option SpaceState) → List ℕ → Type 0
 AreInUse slots in_use = (pcid : ℕ) → HasUse (slot_at slots pcid) (is_set in_use pcid)
 
--- the bit of each slot without a space is set, and no other
+-- The bit of each slot without a space is set, and no other bit is set.
 pub record AreFreed (slots : List (Option SpaceState)) (freed : List ℕ) : Type 0 where
   pub below : (pcid : ℕ) → pcid < length slots → is_set freed pcid ≡ not (is_some (slot_at slots pcid))
   pub past : (pcid : ℕ) → length slots ≤ pcid → is_set freed pcid ≡ false
 
--- the entries of one slot's space are edited, if it has one; the other slots stay
+-- The entries of one slot's space are edited, if the slot has a space. The other slots don't change.
 pub record EditsSlot (f : SpaceState → maps.FinMap nat_cmp Mapped) (pcid : ℕ)
     (old new : List (Option SpaceState)) : Type 0 where
   pub size : length new ≡ length old
   pub here : slot_at new pcid ≡ option_map (edited f) (slot_at old pcid)
   pub others : (q : ℕ) → q ≢ pcid → slot_at new q ≡ slot_at old q
 
--- each entry maps a frame with a number below this
+-- Each entry maps a frame with a number below `count`.
 abbrev pub AreBelow : List (Option SpaceState) → ℕ → Type 0
 AreBelow slots count = (pcid page : ℕ) (s : SpaceState) (entry : Mapped) → slot_at slots pcid ≡ Some s
     → maps.get s.entries page ≡ Some entry → entry.frame < count
 
--- an entry of a slot's space maps this frame as dirty
+-- A dirty entry of the slot's space maps this frame.
 pub record MapsDirty (slot : Option SpaceState) (frame : ℕ) : Type 0 where
   pub s : SpaceState
   pub here : slot ≡ Some s
@@ -138,19 +139,20 @@ pub record MapsDirty (slot : Option SpaceState) (frame : ℕ) : Type 0 where
   pub same_frame : entry.frame ≡ frame
   pub dirty : entry.dirty ≡ true
 
--- the frames that a slot's space maps as dirty are noted, and what was noted still is
+-- The frames that dirty entries of the slot's space map are noted. Every frame that was noted still is, and no other
+-- frame is.
 pub record NotesSlot (slot : Option SpaceState) (old new : List Bool) : Type 0 where
   pub size : length new ≡ length old
   pub noted : (frame : ℕ) → (slice_index_or new frame false ≡ true)
       ↔ ((slice_index_or old frame false ≡ true) ⊎ MapsDirty slot frame)
 
--- so are those of the first slots, up to this PCID
+-- The same for all slots with PCIDs below `upto`.
 pub record NotesSlots (slots : List (Option SpaceState)) (upto : ℕ) (old new : List Bool) : Type 0 where
   pub size : length new ≡ length old
   pub noted : (frame : ℕ) → (slice_index_or new frame false ≡ true)
       ↔ ((slice_index_or old frame false ≡ true) ⊎ ((pcid : ℕ) × (pcid < upto) × MapsDirty (slot_at slots pcid) frame))
 
--- the codes by which a proof tells values apart
+-- the codes by which proofs distinguish values
 abbrev pub space_code : Coded AddressSpace
 space_code =
     code_by (maps.FinMap nat_cmp Mapped × Places)

@@ -11,8 +11,8 @@ use Rattle.log_disk.specs.Laws.{StandsForOne, StandsSince}
 use Rattle.log_disk.specs.Made.{IsTold}
 use Rattle.log_disk.specs.Opening.{HasShown}
 
--- A run over the disk that shows the volume with a log of a device: these steps were made and answered so. Then the
--- device is handed back.
+-- A run over the disk that shows the volume with a log on a device. These steps were made, with these replies. Then the
+-- device was returned.
 pub record HasRunOnShown {D : Type 0} (disk : Ghosts D) (before : D) (shape : Shape) (steps : List Step)
     (replies : List Reply) (after : D) : Type 0 where
   pub shown : LogDiskValue D
@@ -20,8 +20,8 @@ pub record HasRunOnShown {D : Type 0} (disk : Ghosts D) (before : D) (shape : Sh
   pub is_shown : HasShown disk before shown
   pub ran : HasRun (shown_by disk) shown shape steps replies last
   pub ended : after ≡ last.device
-  -- A crash of the device leaves what one of the disk might have left, within the run and after it, if only commits
-  -- can be read from these bytes that the disk made.
+  -- A crash of the device, within the run or after it, leaves bytes that represent what a crash of the shown disk could
+  -- have left. This requires that only commits of the shown disk can be read from these bytes.
   pub within : disk.is_honest last.device → StandsSince disk shown last
   pub later : disk.is_honest last.device → (c : List ℕ) → disk.may_leave after c → IsTold last c
       → StandsForOne (may_leave_of last.memory) c
