@@ -17,13 +17,14 @@
  * One session may use both ways, even for the same file.
  *
  * famsync_msync commits all changes of a session. The commit is acknowledged when the call returns
- * FAMSYNC_OK. If this process is killed or the system crashes, the next session finds the files of
- * one commit. These files have the changes of this commit and of all earlier commits, and no later
- * changes. This commit is the last acknowledged commit, or a later commit that wasn't acknowledged.
+ * FAMSYNC_OK. If this process is killed or the system crashes, the next session finds the files as
+ * one commit left them. The files have the changes of this commit and of all earlier commits, and
+ * no later changes. This commit is the last acknowledged commit, or a later commit that wasn't
+ * acknowledged.
  *
- * A page is 4,096 bytes of a file. The place of a page is a block of the volume's file. A commit
- * first writes its pages to a journal or to the log. These are other parts of the volume's file.
- * Later the library writes the pages to their places.
+ * A page is 4,096 bytes of a file. A block is 4,096 bytes of the volume's file. Each page has a
+ * block of its own, the page's place. A commit first writes its pages to a journal or to the log.
+ * These are other parts of the volume's file. Later the library writes the pages to their places.
  *
  * Each call of type int returns FAMSYNC_OK or one of the negative codes below. famsync_strerror
  * describes a code. Any number of threads may use one handle at the same time: their calls take
@@ -68,7 +69,7 @@ enum famsync_code {
     FAMSYNC_INUSE = -6,    /* the volume is already open, in this process or in another process */
     FAMSYNC_SUSPECT = -7,  /* the volume has the suspect flag, because an earlier sync failed; see
                               famsync_msync, and the option `trust` */
-    FAMSYNC_FORKED = -11,  /* a forked process used the handle of an earlier process */
+    FAMSYNC_FORKED = -11,  /* a forked process used its copy of the handle */
     FAMSYNC_TORN = -12,    /* plain memory was closed after a failed msync, or a rollback failed
                               halfway: call famsync_rollback before the next commit */
 
@@ -174,12 +175,12 @@ struct famsync_plan {
                                             means a random key */
 };
 
-/* Makes a volume in a new file. The volume's files contain zeros. When the call succeeds, the
-   volume is durable. The volume has the same bytes as a volume that `famsync format` makes with the
-   same layout, slots, files, log and key. If the call fails or the process is killed, there is
-   either the whole volume or no new file with the name `volume`. If unnamed files (O_TMPFILE) or
-   /proc are missing, the library first makes the volume in the file VOLUME.new (VOLUME is this
-   name). A crash may leave that file.
+/* Makes a volume in a new file with the path `volume`. The files in the volume contain zeros. When
+   the call succeeds, the volume is durable. The volume has the same bytes as a volume that `famsync
+   format` makes with the same layout, slots, files, log and key. If the call fails or the process
+   is killed, there is either the whole volume or no new file with this path. If unnamed files
+   (O_TMPFILE) or /proc are missing, the library first makes the volume in the file VOLUME.new
+   (VOLUME is this path). A crash may leave VOLUME.new.
 
    A commit has at most `slots` pages in layouts 1 and 2, and at most `slots` - 1 pages in layouts 3
    and 4. In layouts 5 and 6 a commit has to fit into the log, together with a list of its pages,
@@ -219,8 +220,8 @@ int famsync_open(const char *volume, const struct famsync_options *options, fams
    close all plain memory of the handle (otherwise FAMSYNC_ARGUMENT). No other call with the handle
    may be in progress. The call writes committed pages to their places before the session ends.
    FAMSYNC_DEVICE: a read failed in this call, or a write or a sync failed in this call or earlier.
-   With this code, FAMSYNC_UNMARKED and FAMSYNC_NOMEMORY, the handle is freed, too, and all
-   acknowledged commits are durable. */
+   If the call returns FAMSYNC_DEVICE, FAMSYNC_UNMARKED or FAMSYNC_NOMEMORY, the handle is freed,
+   too, and all acknowledged commits are durable. */
 int famsync_close(famsync *handle);
 
 /* famsync_files returns the number of files of the volume. Files are numbered from 0.
@@ -239,10 +240,10 @@ unsigned famsync_frames(const famsync *handle);
    added bytes are zeros. Like a write, the new length becomes durable with the next famsync_msync.
    The new length is lost if the session ends before that.
 
-   All pages that are added to a file count as written. If the file ended within a page, this page
-   counts as written, too. FAMSYNC_NOFRAME: together with the pages that already wait for a commit,
-   these pages are more than one commit can have. Then grow the file in steps, with an msync after
-   each step. A call that fails changes nothing.
+   All pages that are added to a file count as written. If the file ended within a page before it
+   grew, this page counts as written, too. FAMSYNC_NOFRAME: together with the pages that already
+   wait for a commit, these pages are more than one commit can have. Then grow the file in steps,
+   with an msync after each step. A call that fails changes nothing.
 
    If plain memory of the file is open, this memory grows or shrinks in place. The program must no
    longer use bytes past the new end. FAMSYNC_SYSTEM: the system refused to change the memory. */
@@ -293,8 +294,8 @@ int famsync_write(famsync *handle, unsigned file, uint64_t offset, const void *b
 
    Some writes of a commit come after its acknowledgement. A thread of the library makes these
    writes while no call is in progress, or the next commit makes them. In layouts 4 to 6 the thread
-   first waits until no commit has come for 10 ms. But in layouts 5 and 6 it doesn't wait once half
-   of the log is in use. With `foreground` there is no such thread. */
+   first waits until 10 ms pass without a commit. But in layouts 5 and 6 the thread doesn't wait
+   once half of the log is in use. With `foreground` there is no such thread. */
 int famsync_msync(famsync *handle, uint64_t *mark);
 
 /* Undoes all changes of this session since the last commit: writes, lengths and stores to plain
@@ -351,8 +352,9 @@ int famsync_stat(famsync *handle, struct famsync_stat *stat);
 
    FAMSYNC_SYSTEM: the library couldn't write the backup's file. FAMSYNC_DEVICE: the library
    couldn't read the volume (the session continues), or couldn't write to the volume (the session is
-   over). After a failure the backup's file is unchanged, isn't a volume, or is a whole backup that
-   might not be durable. A failed backup doesn't make any commit fail. */
+   over). After a failure one of three things is true: the backup's file is unchanged, it isn't a
+   volume, or it is a whole backup that might not be durable. A failed backup doesn't make any
+   commit fail. */
 int famsync_backup(famsync *handle, int descriptor);
 
 /*
@@ -385,7 +387,7 @@ int famsync_backup(famsync *handle, int descriptor);
  *
  * - A store by the kernel raises no signal: read(2) and similar calls fail with EFAULT if they
  *   store to a page that isn't writable yet.
- * - If a thread blocks SIGSEGV, a store to such a page kills the process.
+ * - If a thread that blocks SIGSEGV stores to such a page, the system kills the process.
  * - If the program later installs another handler of SIGSEGV, the new handler gets the library's
  *   faults. The new handler should pass them to the previous handler.
  *
@@ -410,8 +412,8 @@ int famsync_backup(famsync *handle, int descriptor);
 int famsync_memory_open(famsync *handle, const char *file, famsync_memory **memory);
 
 /* Opens plain memory at a given address, so that the file can contain pointers into itself. A null
-   pointer means any address. The memory occupies addresses for the file's capacity, for one page
-   before the file, and for one page after it. FAMSYNC_ADDRESS has four possible reasons: the
+   pointer means any address. The memory occupies the addresses of the file's whole capacity, of one
+   page before them, and of one page after them. FAMSYNC_ADDRESS has four possible reasons: the
    address isn't a multiple of the page size; the occupied addresses begin below 65,536; they end
    above the highest address; they contain other memory. */
 int famsync_memory_open_at(famsync *handle, const char *file, void *address, famsync_memory **memory);

@@ -63,12 +63,12 @@
  *       return close(file);
  *   }
  *
- * A function takes the handle by value, and returns it through its last argument, `&core.at` of the
- * same handle. No function checks its handle. Pass the handle that the previous function call
- * returned. This handle must not be null or closed. Only one function at a time may use a handle. A
- * pointer with a count must point to this number of bytes. If the count is 0, the pointer may be
- * any pointer except null. The bytes that famsync_core_call returns are valid until another
- * function is called with the same handle.
+ * A function takes the handle by value. Its last argument is `&core.at` of the same handle: the
+ * function sets `core.at` for the next function call. No function checks its handle. Pass the
+ * handle as the previous function call set it. This handle must not be null or closed. Only one
+ * function at a time may use a handle. A pointer with a count must point to this number of bytes.
+ * If the count is 0, the pointer may be any pointer except null. The bytes that famsync_core_call
+ * returns are valid until another function is called with the same handle.
  *
  * The core requests memory through three functions that the host defines: rattle_alloc,
  * rattle_realloc and rattle_dealloc (below).
@@ -100,7 +100,8 @@ typedef struct {
 enum famsync_core_code {
     FAMSYNC_CORE_OK = 0,
     FAMSYNC_CORE_WANTED = 1, /* supply the block `*wanted`, and make the same call again */
-    FAMSYNC_CORE_NONE = 2,   /* there is no such recorded call, no log, or nothing to do */
+    FAMSYNC_CORE_NONE = 2,   /* no such call waits, no step remains, there is no log, or the block
+                                is kept */
 
     FAMSYNC_CORE_ARGUMENT = -1, /* an argument is invalid */
     FAMSYNC_CORE_NOMEMORY = -2, /* memory was refused */
@@ -119,8 +120,8 @@ enum famsync_core_code {
     FAMSYNC_CORE_EINVAL = -30,  /* the page begins past the file's end, or the length is more than
                                    the capacity */
     FAMSYNC_CORE_NOFILE = -34,  /* the volume has no such file */
-    FAMSYNC_CORE_BUSY = -35,    /* the session has made 2^32 - 1 commits, or the epochs or commit
-                                   numbers of the log are used up */
+    FAMSYNC_CORE_BUSY = -35,    /* the session has made 2^32 - 1 commits, or the log has no unused
+                                   epoch or commit number (docs/FORMATS.md) */
     FAMSYNC_CORE_OTHER = -38    /* any other refusal; no function of this header returns it */
 };
 
@@ -150,10 +151,10 @@ int32_t famsync_core_is_known(famsync_core core, uint32_t block, uint8_t **at);
    these commits home.
 
    Codes: OK, WANTED, NOTAVOLUME, DAMAGED, NOMEMORY or DEVICE (after either, close the handle, and
-   begin again), BUSY (the epochs of the log are used up), ORDER.
+   begin again), BUSY (the log has no unused epoch), ORDER.
 
    WANTED: a block isn't known. The volume isn't open, and no call was recorded. Opening wants block
-   0 first, and then these blocks, one at a time, not always in this order:
+   0 first, and then these blocks (docs/FORMATS.md), one at a time, not always in this order:
 
    - from layout 3 on, the block of the lengths;
    - in a volume with journals, the gates and the open journals;
@@ -219,8 +220,8 @@ int32_t famsync_core_commit(famsync_core core, uint32_t *mark, uint32_t *wanted,
    is made before the first one is acknowledged, both are acknowledged together. Codes: ORDER. */
 int64_t famsync_core_acknowledged(famsync_core core, uint8_t **at);
 
-/* Makes at most `most` further steps, which write the pages of earlier commits home. Records the
-   calls of these steps.
+/* Makes at most `most` steps, which write the pages of earlier commits home. Records the calls of
+   these steps.
 
    Codes: OK (steps remain), NONE (no step remains), WANTED, NOMEMORY (make the same call again),
    BROKEN, DEVICE, ORDER.
