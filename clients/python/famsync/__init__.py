@@ -6,11 +6,12 @@
         bank[8:16] = (7).to_bytes(8, "little")
         volume.commit()                             # both or neither
 
-Even if this process is killed or the system crashes, the next session finds the files as they were at one commit: the
-last one that `commit` returned from, or a later one. A volume has one session that writes.
+A volume is a disk file that contains files. If this process is killed or the system crashes, the next session finds the
+files of one commit. This is the last commit for which `commit` returned, or a later commit. At any time a volume has at
+most one session that writes, or any number of sessions that only read.
 
-A program can access the bytes of a file in two ways: by `Volume.memory`, a buffer to store through, and by
-`Volume.read` and `Volume.write`. A call that fails raises an `Error`.
+A program can access the bytes of a file in two ways: as memory (`Volume.memory`), and with `Volume.read` and
+`Volume.write`. If a call of the library fails, the package raises an `Error`.
 """
 
 from __future__ import annotations
@@ -99,7 +100,7 @@ def open(
     budget: int = 0,
     kernel_tracking: bool = False,
 ) -> Volume:
-    """Begins a session with a volume; `Volume` describes the arguments."""
+    """Begins and returns a session with a volume. `Volume` describes the arguments."""
     return Volume(
         path,
         trust=trust,

@@ -28,16 +28,19 @@ def create(
     log: Optional[int] = None,
     key: int = 0,
 ) -> None:
-    """Makes a volume at `path`, where no file is yet: else System, whose errno is EEXIST. `files` has the length of
-    each file, or a pair of its length and its capacity, the length up to which it may grow.
+    """Makes a volume in a new file at `path`. Raises System, with the errno EEXIST, if the path exists. `files` maps
+    the name of each file to its length, or to a pair of its length and its capacity. A file can grow up to its
+    capacity.
 
         famsync.create("bank.vol", {"bank": 8192, "log": (0, 1 << 40)})
 
-    In layouts 1 to 4 a commit has at most as many pages as there are `slots`, or one less in layouts 3 and 4. Without
-    `slots` there are 1,020, or 1,024 in layout 4. In layouts 5 and 6 a commit has to fit into the log of `log` blocks.
-    Without `log` there are 16,384. `key` is the key of the digests in layout 6; 0 means a random one.
+    In layouts 1 to 4, `slots` is the number of record slots of a journal: by default 1,020, or 1,024 in layout 4. A
+    commit has at most `slots` pages in layouts 1 and 2, and at most `slots` - 1 pages in layouts 3 and 4. In layouts 5
+    and 6, `log` is the number of blocks of the log, by default 16,384. A commit has to fit into the log. In layout 6,
+    `key` is the key of the digests; 0 means a random key.
 
-    With `preallocate` the disk's blocks are taken now; else as they are written. Argument if no volume is like that."""
+    With `preallocate` all disk blocks are allocated now. Otherwise a block is allocated when it is first written.
+    Raises Argument if these arguments describe no valid volume."""
     made = [_new_file(name, length) for name, length in files.items()]
     said = ctypes.create_string_buffer(MESSAGE)
     plan = _library.Plan(
@@ -56,7 +59,7 @@ def create(
 
 
 def _at_least_one(value: int, what: str) -> int:
-    """A number that isn't 0, which the library takes for its own choice."""
+    """Returns a number. Refuses 0, which would mean the default to the library."""
     number = _number(value, 32, what)
     if number == 0:
         raise Argument(f"{what} is 0")

@@ -1,4 +1,4 @@
-"""What goes wrong: a class for each code of the library, all of them `Error`."""
+"""The errors: a subclass of `Error` for each code of the library."""
 
 from __future__ import annotations
 
@@ -9,10 +9,10 @@ from ._library import words
 
 
 class Error(Exception):
-    """A call was refused, or something failed.
+    """The library refused a call, or the call failed.
 
-    `code` is that of famsync.h. If a read or a write failed on the way, `done` is the number of bytes that were read or
-    written before, and `read` has the bytes read.
+    `code` is the code in famsync.h. If a read or a write of a file failed in the middle, `done` is the number of bytes
+    that were read or written before, and `read` contains the bytes read.
     """
 
     code = 0
@@ -29,7 +29,7 @@ class Argument(Error, ValueError):
 
 
 class NoMemory(Error, MemoryError):
-    """Memory was refused."""
+    """The system refused memory."""
 
     code = -2
 
@@ -41,61 +41,61 @@ class System(Error, OSError):
 
 
 class InUse(Error):
-    """The volume is open already, in another process or in this one."""
+    """The volume is already open, in this process or in another process."""
 
     code = -6
 
 
 class Suspect(Error):
-    """An earlier sync of the volume failed; it opens only with trust=True."""
+    """An earlier sync of the volume failed, so `open` needs trust=True."""
 
     code = -7
 
 
 class Forked(Error):
-    """The volume was opened by the process from which this one was forked."""
+    """The volume was opened before this process was forked."""
 
     code = -11
 
 
 class Torn(Error):
-    """Only a part of the changes was taken or undone: nothing can be committed before a rollback."""
+    """Plain memory was closed after a failed commit, or a rollback failed halfway. Roll back before the next commit."""
 
     code = -12
 
 
 class NotRegular(Error):
-    """The path names no regular file, but a folder, a device, a pipe or a socket."""
+    """The path names a folder, a device, a pipe or a socket."""
 
     code = -13
 
 
 class SeveralNames(Error):
-    """The volume's file has several names, so others could use it by another name."""
+    """The volume's file has several names (hard links), so another process could use it under another name."""
 
     code = -14
 
 
 class Replaced(Error):
-    """Each time that the volume's file was locked, the path named another file by then."""
+    """After each attempt to lock the volume's file, the path named another file."""
 
     code = -15
 
 
 class NotAVolume(Error):
-    """The file doesn't begin as a volume."""
+    """The file doesn't begin like a volume."""
 
     code = -16
 
 
 class Damaged(Error):
-    """The file begins as a volume, but its bytes or its length break the format."""
+    """The file begins like a volume, but its bytes or its length break the rules of the format."""
 
     code = -17
 
 
 class BadShape(Error):
-    """`frames` is more than a commit of this volume can have."""
+    """`frames` is more than the number of pages that one commit of this volume can have."""
 
     code = -18
 
@@ -107,7 +107,7 @@ class NoFrame(Error):
 
 
 class Device(Error, OSError):
-    """A read, a write or a sync of the volume failed; `errno` has the cause: ENOSPC, EIO, ENOMEM."""
+    """A read, a write or a sync of the volume failed; `errno` has the cause, such as ENOSPC, EIO or ENOMEM."""
 
     code = -28
 
@@ -119,13 +119,14 @@ class Broken(Error, OSError):
 
 
 class Invalid(Error):
-    """The bytes aren't within the file; or a length is above the capacity, or the volume has layout 1 or 2."""
+    """A byte is past the file's end. Or a new length is above the file's capacity, or the volume has layout 1 or 2, in
+    which lengths never change."""
 
     code = -30
 
 
 class Overlap(Error):
-    """Plain memory of the file is open already."""
+    """Plain memory of the file is already open."""
 
     code = -33
 
@@ -137,20 +138,25 @@ class NoFile(Error):
 
 
 class Busy(Error):
-    """Plain memory of the file is open; or another backup is being made; or, with kernel tracking, a thread stored
-    during a commit; or the session has made 2^32 - 1 commits."""
+    """The call can't be made in this state of the session.
+
+    - `set_length`: plain memory of the file is open.
+    - `backup`: another backup is being made.
+    - `commit`: with kernel tracking, a thread stored during the commit. Or the session has made 2^32 - 1 commits.
+    """
 
     code = -35
 
 
 class Unmarked(Error, OSError):
-    """A sync failed, and the volume's suspect flag couldn't be made; `errno` has the cause of the sync's failure."""
+    """A sync failed, and the library couldn't flag the volume as suspect; `errno` has the cause of the failed sync."""
 
     code = -39
 
 
 class NeedsOpening(Error):
-    """A crash or a failed sync left work for a writer: open the volume once without readonly=True."""
+    """A crash or a failed sync left work that only a writing session can do. Open the volume once without
+    readonly=True."""
 
     code = -40
 
@@ -162,7 +168,7 @@ class ReadOnly(Error):
 
 
 class Address(Error):
-    """There can't be memory at this address."""
+    """Plain memory can't be at this address."""
 
     code = -42
 
@@ -177,7 +183,8 @@ CLASSES = {kind.code: kind for kind in Error.__subclasses__()}
 
 
 def check(code: int, message: str = "", done: int = 0, read: bytes = b"") -> None:
-    """Raises what a code says, with the library's words for it where there is no other message."""
+    """Raises the error of a code other than 0. Without `message` the error has the library's description of the
+    code."""
     if code == 0:
         return
     kind, error = CLASSES.get(code, Error), ctypes.get_errno()

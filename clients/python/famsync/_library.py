@@ -1,4 +1,4 @@
-"""The shared library: where it is found, and what its calls take. clients/c/famsync.h says what they do."""
+"""Finds and loads the shared library, and declares the types of its calls. clients/c/famsync.h describes the calls."""
 
 from __future__ import annotations
 
@@ -98,7 +98,8 @@ CALLS = {
 
 
 def _place() -> str:
-    """The one that FAMSYNC_LIBRARY names, else the one beside this file, else what the system finds by its name."""
+    """Returns the path in FAMSYNC_LIBRARY, or else the path of a library beside this file, or else only the library's
+    name, by which the system finds it."""
     named = os.environ.get("FAMSYNC_LIBRARY")
     beside = os.path.join(os.path.dirname(os.path.abspath(__file__)), NAME)
     return named or (beside if os.path.exists(beside) else NAME)
@@ -121,12 +122,12 @@ library = _load()
 
 
 def version() -> str:
-    """The version of the library that is loaded."""
+    """Returns the version of the loaded library."""
     text: bytes = library.famsync_version()
     return text.decode()
 
 
 def words(code: int) -> str:
-    """A code in words."""
+    """Returns the library's description of a code."""
     text: bytes = library.famsync_strerror(code)
     return text.decode()

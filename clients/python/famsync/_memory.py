@@ -1,4 +1,4 @@
-"""Plain memory."""
+"""Plain memory: a file of a volume as memory of this process."""
 
 from __future__ import annotations
 
@@ -18,7 +18,8 @@ if TYPE_CHECKING:
 
 
 class Lent:
-    """Memory of the library, which gets it back when this goes. Its volume stays open until then."""
+    """Plain memory that the library has opened. When this object is freed, the library closes the memory. Until then
+    the object keeps its volume alive."""
 
     closing: Optional[Once] = None
 
@@ -51,10 +52,11 @@ class _Byte(ctypes.Union):
 
 
 class Memory:
-    """A file as memory of this process. `Volume.memory` opens it.
+    """A file as memory of this process, which `Volume.memory` opens.
 
     Indexes and slices read and store bytes. `view` returns all bytes as a memoryview. From Python 3.12 on, the object
-    itself is a writable buffer, like `mmap.mmap`. A commit writes all pages that were stored to.
+    itself is a writable buffer, like `mmap.mmap`. In a session that only reads, stores raise ReadOnly, and views are
+    read-only. A commit makes all stores durable.
     """
 
     name: str
@@ -83,8 +85,8 @@ class Memory:
         return self._bytes
 
     def view(self) -> memoryview:
-        """Returns all bytes as a memoryview. The memory can't be closed before this view is released, and each object
-        made from it is gone."""
+        """Returns all bytes as a memoryview. The memory can't be closed while this view, or an object
+        made from it, is in use."""
         return memoryview(self._opened())
 
     def __buffer__(self, flags: int) -> memoryview:
@@ -118,8 +120,8 @@ class Memory:
 
     @property
     def dirty(self) -> int:
-        """The number of pages of 4,096 bytes that were stored to since the last commit. A page whose bytes are the
-        same as before may count or not. One commit can have at most `Volume.frames` pages."""
+        """The number of pages (4,096 bytes) that were stored to since the last commit. A page may count even if its
+        bytes didn't change. One commit can have at most `Volume.frames` pages."""
         with self.view():  # so it isn't closed meanwhile
             if os.getpid() != self._owner:
                 raise Forked(words(Forked.code))
@@ -127,16 +129,17 @@ class Memory:
             return pages
 
     def touch(self, offset: int = 0, count: Optional[int] = None) -> None:
-        """Makes the pages of `count` bytes from `offset` on writable, as a store to each of them does. Without `count`
-        these are all pages up to the end. Then the kernel can store to them until the next commit, for `readinto`."""
+        """Makes the pages of `count` bytes from `offset` on writable, as a store to each page would. Without `count`
+        the range ends at the end of the memory. Until the next commit or rollback the kernel can store to these pages,
+        for instance in `readinto`. Raises NoFrame if the range has more pages than one commit can have."""
         with self.view() as view:  # so it isn't closed meanwhile
             begin = _place(offset, len(view), "offset")
             end = len(view) if count is None else _place(begin + operator.index(count), len(view), "count")
             check(library.famsync_memory_touch(self._pointer, begin, end - begin))
 
     def close(self) -> None:
-        """Closes the memory. Stores since the last commit are lost. Raises BufferError if somebody has a buffer of the
-        memory: a view that isn't released, or an object made from a view."""
+        """Closes the memory. Stores since the last commit are lost. Raises BufferError while a buffer of the memory is
+        in use: a view that isn't released, or an object made from a view. The memory then stays open."""
         if self._is_closed:
             return
         self._bytes.release()
@@ -179,8 +182,8 @@ def _place(value: Any, length: int, what: str) -> int:
 
 
 def open_memory(handle: ctypes.c_void_p, lent: Lent, address: int, readonly: bool) -> Memory:
-    """Opens plain memory of a file, anywhere if the address is 0. If an interrupt comes in between, nothing is left
-    open."""
+    """Opens plain memory of a file at `address`, or anywhere if `address` is 0. If an interrupt stops this function, no
+    memory stays open."""
     try:
         encoded, pointer = os.fsencode(lent.name), ctypes.byref(lent.pointer)
         if address == 0:

@@ -1,4 +1,4 @@
-"""The handle of a volume, for calls of any thread."""
+"""The library's handle of a session, which all threads can use."""
 
 from __future__ import annotations
 
@@ -20,11 +20,12 @@ T = TypeVar("T")
 
 
 class Once:
-    """A call of the library that ends what a pointer is of, and that is made once.
+    """A call of the library that closes what a pointer refers to. It is made at most once.
 
-    An interrupt comes between two steps of Python code, also within `__del__`, where nobody hears of it. If one came
-    between taking the pointer and the call, nobody would end it any more. So `next` of an iterator does both, in C code
-    alone: an interrupt comes before both, and `end` can be called again, or after both.
+    An interrupt (KeyboardInterrupt) can come between any two steps of Python code, even within `__del__`, where Python
+    ignores it. If an interrupt came after the pointer was taken and before the call, the call would never be made. So
+    `next` of an iterator does both, in C code alone. If an interrupt comes before both, `end` can be called again.
+    Otherwise the interrupt comes after both.
     """
 
     def __init__(self, call: Callable[[Any], int], pointer: ctypes.c_void_p) -> None:
@@ -34,28 +35,29 @@ class Once:
 
     @property
     def pointer(self) -> Optional[ctypes.c_void_p]:
-        """The pointer, unless the call was made or the pointer was never set."""
+        """The pointer, or None if the call was made or the pointer was never set."""
         pointer = self._left.get(0)
         return pointer if pointer else None
 
     def end(self) -> int:
-        """Makes the call, and returns its answer; 0 if it was made before."""
+        """Makes the call, and returns its code. Returns 0 if the call was made before."""
         return next(self._ending, 0)
 
     def forget(self) -> None:
-        """From now on `end` does nothing."""
+        """Makes `end` do nothing from now on."""
         self._left.clear()
 
     def with_(self, owner: object) -> weakref.ref[Any]:
-        """Makes the call as `owner` goes, after its `__del__`, by C code alone. The owner has to keep the answer."""
+        """Returns a weak reference to `owner`, which the owner has to keep. When the owner is freed, after its
+        `__del__`, the reference makes the call, in C code alone."""
         return weakref.ref(owner, partial(next, self._ending))
 
 
 class Session:
-    """A handle of the library's. Who ends it waits for the calls of other threads.
+    """A session's handle of the library. `end` waits for the calls of other threads.
 
-    No variable counts the calls, and no lock guards them: a signal handler that raises could leave both wrong. Instead
-    the interpreter is asked which threads are in a call.
+    No variable counts the calls, and no lock guards them, because a signal handler that raises could leave both in a
+    wrong state. Instead `end` asks the interpreter which threads are in a call.
     """
 
     def __init__(self, what: str) -> None:
@@ -71,11 +73,12 @@ class Session:
 
     @property
     def is_forked(self) -> bool:
-        """Whether this process is a copy of the one that has the handle."""
+        """Whether this process was forked after the session object was made."""
         return os.getpid() != self._owner
 
     def call(self, function: Callable[..., T], *arguments: Any) -> T:
-        """What a function answers to the handle and these arguments. It keeps the handle no longer."""
+        """Calls a function with the handle and these arguments, and returns its result. The function must not keep the
+        handle. Raises Forked in a forked process, and ValueError if the session was closed."""
         if self.is_forked:
             raise Forked(words(Forked.code))
         handle = None if self._is_ending else self.closing.pointer
@@ -84,19 +87,20 @@ class Session:
         return function(handle, *arguments)
 
     def _callers(self) -> Set[int]:
-        """The threads that are within `call`. No variable here has a frame: one of them is that of this call, and an
-        exception would leave a circle."""
+        """Returns the threads that are within `call`. No variable here refers to a frame. One of the frames is this
+        function's own, so after an exception it would refer to itself."""
         return set(filter(None, starmap(self._if_within, sys._current_frames().items())))
 
     def _if_within(self, thread: int, frame: Optional[FrameType]) -> Optional[int]:
-        """The thread, if its frame is within `call`."""
+        """Returns the thread if `frame` is within `call`, or else None."""
         while frame is not None and not (frame.f_code is CALL and frame.f_locals.get("self") is self):
             frame = frame.f_back
         return None if frame is None else thread
 
     def end(self, prepare: Callable[[], None]) -> int:
-        """Ends the session, once no thread is in a call and `prepare` has returned, and returns the library's code; 0
-        if it was ended before, or is another process's. Where an exception comes before, the session goes on."""
+        """Ends the session, and returns the library's code. Before that, waits until no thread is in a call, and calls
+        `prepare`. If an exception comes before the end, the session continues. Returns 0 in a forked process, or if the
+        session was ended before. Raises RuntimeError within a call of this session."""
         if self.is_forked:
             return 0
         if threading.get_ident() in self._callers():

@@ -22,7 +22,7 @@ Path = Union[str, bytes, "os.PathLike[str]", "os.PathLike[bytes]"]
 
 
 class Stat(NamedTuple):
-    """Numbers of a session, which `Volume.stat` returns. Calls of the system count from the opening on."""
+    """Statistics of a session, which `Volume.stat` returns. System calls are counted from the opening on."""
 
     commits: int  # the number of the last commit that was acknowledged
     frames: int  # the most pages of one commit
@@ -36,7 +36,7 @@ class Stat(NamedTuple):
 
 
 def _number(value: Any, bits: int, what: str) -> int:
-    """A number that the library has so many bits for."""
+    """Returns a number. Raises Argument if it is negative or has more than `bits` bits."""
     number = operator.index(value)
     if not 0 <= number < 1 << bits:
         raise Argument(f"{what} is {number}")
@@ -44,7 +44,7 @@ def _number(value: Any, bits: int, what: str) -> int:
 
 
 def _name(name: str) -> bytes:
-    """A name in bytes, of which one with a null byte would be cut off there."""
+    """Returns a name in bytes. Refuses a name with a null byte, because the library would cut it off there."""
     if "\0" in name:
         raise Argument("a file's name has no null byte")
     return os.fsencode(name)
@@ -55,7 +55,7 @@ _BITS = {"frames": 32, "copies": 32, "wait_ms": 32, "budget": 8 * ctypes.sizeof(
 
 
 def _options(said: Any, **given: Any) -> Options:
-    """The options of a session, with room for what is said where it doesn't begin."""
+    """Returns the options of a session. `said` is the buffer for the library's message if the session doesn't begin."""
     fields = {
         name: _number(value, _BITS[name], name) if name in _BITS else bool(value) for name, value in given.items()
     }
@@ -80,7 +80,7 @@ def _files(handle: ctypes.c_void_p) -> Dict[str, int]:
 
 
 def _numbers(handle: ctypes.c_void_p) -> Dict[str, int]:
-    """The numbers of the files, by their names."""
+    """Returns the number of each file, by the file's name."""
     numbers = range(library.famsync_files(handle))
     return {library.famsync_file_name(handle, number).decode(): number for number in numbers}
 
@@ -98,20 +98,23 @@ def _sync_folder(path: Path) -> None:
 
 
 class Volume:
-    """A session with the volume at `path`; `famsync.open` begins one.
+    """A session with the volume at `path`. `famsync.open` begins a session.
 
-    - `trust`: opens a volume even if an earlier sync of it failed.
-    - `frames`: the most pages of one commit; 0 means as many as the volume allows.
+    - `trust`: opens the volume even if an earlier sync of it failed.
+    - `frames`: the greatest number of pages in one commit; 0 means the limit of the volume.
     - `copies`: ignored.
-    - `foreground`: no thread of the library's own. Otherwise it writes a part of each commit after its acknowledgement.
-    - `wait_ms`: how long to wait for a volume that is in use, in milliseconds.
-    - `readonly`: a session that only reads. Any number of them share a volume.
-    - `resident`: a file is read whole to open its plain memory, instead of mapping the volume's file.
-    - `budget`: the most bytes of committed pages that plain memory keeps, with a copy of each; 0 means 64 MB.
-    - `kernel_tracking`: the kernel notes stores to plain memory, including its own, without a handler of SIGSEGV. If it
-      can't, Tracking. Other threads may not store during a commit: Busy. It excludes `resident`.
+    - `foreground`: the library starts no thread. Otherwise its thread makes some writes of a commit after the commit
+      was acknowledged.
+    - `wait_ms`: how long to wait for a volume that is in use, in milliseconds. After that time `open` raises InUse.
+    - `readonly`: the session only reads. Any number of such sessions can share a volume.
+    - `resident`: the library reads the whole file to open its plain memory, instead of mapping the volume's file.
+    - `budget`: how many bytes the committed pages of plain memory and their copies may use; 0 means 64 MB.
+    - `kernel_tracking`: the kernel tracks stores to plain memory, including its own stores, without a handler of
+      SIGSEGV. If the system can't do this, Tracking is raised. If another thread stores during a commit, the commit can
+      raise Busy. This option can't be combined with `resident`.
 
-    Threads may share it, and share commits. At the end of a `with` it is closed.
+    Threads can share a `Volume`. Threads that commit at the same time can share one commit. A `with` block closes the
+    volume at its end.
     """
 
     def __init__(
@@ -159,12 +162,12 @@ class Volume:
 
     @property
     def files(self) -> Dict[str, int]:
-        """The files and their lengths, as this session has set them."""
+        """The length of each file in this session, committed or not, by the file's name."""
         return self._session.call(_files)
 
     @property
     def frames(self) -> int:
-        """The most pages of 4,096 bytes that one commit can have."""
+        """The greatest number of pages (4,096 bytes) in one commit."""
         frames: int = self._session.call(library.famsync_frames)
         return frames
 
@@ -175,8 +178,9 @@ class Volume:
         return mark
 
     def memory(self, name: str, *, address: int = 0) -> Memory:
-        """Plain memory of a whole file, which has a byte at least. It is at `address`, if that isn't 0, so that the
-        file may have pointers into itself; Address if there can't be memory."""
+        """Opens plain memory of a whole file. If `address` isn't 0, the memory is at this address, so that the file can
+        contain pointers into itself. Raises Address if memory can't be there, Overlap if memory of the file is already
+        open, and Argument if the file is empty."""
         bits = 8 * ctypes.sizeof(ctypes.c_void_p)
         return self._session.call(self._open_memory, name, _number(address, bits, "address"))
 
@@ -189,15 +193,17 @@ class Volume:
         return memory
 
     def _take_back(self) -> None:
-        """Closes memory that nobody has any more, and that an interrupt has left open. Threads may do so at once."""
+        """Closes memory that an interrupt has left open though its `Lent` is gone. Several threads may call this at
+        once."""
         for one in [one for one in self._lent if one[1]() is None]:
             one[0].end()
             with suppress(ValueError):
                 self._lent.remove(one)
 
     def read(self, name: str, offset: int = 0, count: Optional[int] = None) -> bytes:
-        """Bytes of a file from `offset` on, as they were written last: `count` of them, or fewer where the file ends
-        before. Without a count up to the file's end. If the file has plain memory that is open, they are read of it."""
+        """Returns `count` bytes of a file from `offset` on, or fewer if the file ends before. Without `count` it
+        returns the bytes up to the file's end. The bytes include changes that aren't committed yet. If plain memory of
+        the file is open, they are read from this memory."""
         most = None if count is None else _number(count, 64, "count")
         return self._session.call(self._read, name, _number(offset, 64, "offset"), most)
 
@@ -212,10 +218,11 @@ class Volume:
         return read
 
     def write(self, name: str, offset: int, value: Any) -> None:
-        """Writes bytes, or what has some, to a file from `offset` on. Invalid if one of them lies past the file's end;
-        NoFrame if the next commit has no room for their pages. Nothing is written then.
+        """Writes bytes, or the bytes of a buffer, to a file from `offset` on. Raises Invalid if a byte would be past
+        the file's end, and NoFrame if the next commit has no room for the pages. In both cases nothing is written.
 
-        Writes wait in memory for `commit`. If the file has plain memory that is open, it is a store to that."""
+        The written bytes wait in memory for `commit`. If plain memory of the file is open, a write is a store to this
+        memory."""
         written = value if isinstance(value, bytes) else memoryview(value).tobytes()
         self._session.call(self._write, name, _number(offset, 64, "offset"), written)
 
@@ -231,16 +238,18 @@ class Volume:
         return number
 
     def stat(self) -> Stat:
-        """Numbers of this session: commits, pages that wait, calls of the system, memory."""
+        """Returns statistics of this session: commits, waiting pages, system calls, memory."""
         found = _library.Stat(size=ctypes.sizeof(_library.Stat))
         check(self._session.call(library.famsync_stat, ctypes.byref(found)))
         return Stat(*(getattr(found, name) for name in Stat._fields))
 
     def backup(self, file: Union[Path, int, Any]) -> None:
-        """Writes a clean volume with the files of the last acknowledged commit. Other threads may commit meanwhile.
+        """Writes a volume with the files of the last acknowledged commit. Opening this volume needs no recovery. Other
+        threads may commit meanwhile.
 
-        `file` is a path, whose file is made or overwritten; or a descriptor, or an object with one, that is open for
-        reading and writing. It is emptied first, and synced at the end. Busy if another backup is being made."""
+        `file` is a path, a file descriptor, or an object with the method `fileno`. At a path the file is made or
+        overwritten. A descriptor has to be open for reading and writing. The file is emptied first, and synced at the
+        end. Raises Busy if the session is already making a backup."""
         if isinstance(file, int):
             self._back_up(file)
         elif hasattr(file, "fileno"):
@@ -260,11 +269,12 @@ class Volume:
         _sync_folder(path)
 
     def set_length(self, name: str, length: int) -> None:
-        """Sets the length of a file, up to its capacity, from layout 3 on; else Invalid. Bytes past a new
-        end are gone, and what a file grows by is zeros; the pages that it grows by go into the next commit, and NoFrame
-        says that one can't have them all. Like a write it is durable after that commit.
+        """Sets the length of a file, up to its capacity. Bytes past a new end are lost, and added bytes are zeros. Like
+        a write, the new length is durable after the next commit. All pages that are added to a file count as written.
 
-        Busy as long as plain memory of the file is open, of which somebody may have a buffer."""
+        Raises Invalid if the length is above the capacity, or if the volume has layout 1 or 2. Raises NoFrame if one
+        commit can't have the added pages and the other waiting pages. Raises Busy while plain memory of the file is
+        open, because somebody may have a buffer of this memory."""
         self._session.call(self._set_length, name, _number(length, 64, "length"))
 
     def _set_length(self, handle: ctypes.c_void_p, name: str, length: int) -> None:
@@ -285,8 +295,8 @@ class Volume:
         check(code)
 
     def _may_change_length(self, name: str) -> bool:
-        """Whether a rollback may change the length of a file: for each that was set, there is the number of the last
-        commit before it, once that is known."""
+        """Whether a rollback may change the length of a file. If the length was set, `_lengths` has the number of the
+        last commit before, or no number as long as that isn't known."""
         return name in self._lengths and self._lengths[name] in ([], [self.acknowledged])
 
     def _has_memory(self, name: str) -> bool:
@@ -294,18 +304,20 @@ class Volume:
         return any(one.name == name and closing.pointer for closing, lent in self._lent if (one := lent()))
 
     def commit(self) -> int:
-        """Makes all changes of this session durable, all of them or none, and returns the commit's number, counted from
-        1, once they are. Where it is refused, all changes still wait for a commit."""
+        """Makes all changes of this session durable, or none. Returns when they are durable, with the commit's number,
+        counted from 1 in each session. If the commit fails and the session continues, all changes wait for the next
+        commit."""
         mark = ctypes.c_uint64()
         check(self._session.call(library.famsync_msync, ctypes.byref(mark)))
         return mark.value
 
     def rollback(self) -> None:
         """Undoes all changes since the last commit: stores to plain memory, writes and lengths. If it fails, all
-        changes still wait for a commit.
+        changes still wait for a commit, with two exceptions. After System a part may be undone: commits then raise Torn
+        until a rollback succeeds. After Device the session may be over.
 
-        Memory of a file whose length was set since the last commit is closed first; BufferError if somebody has a
-        buffer of it."""
+        If a file's length was set since the last commit, its memory is closed first. Raises BufferError if somebody has
+        a buffer of this memory."""
         lengths = dict(self._lengths)
         for name in filter(self._may_change_length, lengths):
             self._close_memory_of(name)
@@ -322,8 +334,8 @@ class Volume:
 
     @contextmanager
     def transaction(self) -> Iterator[None]:
-        """Commits at the end of the `with`. If an exception comes before, or the commit is refused, all changes are
-        rolled back, and the exception goes on.
+        """Commits at the end of the `with` block. If the block raises an exception, or the commit fails, all changes
+        are rolled back, and the exception is raised again. After Device, Broken and Unmarked there is no rollback.
 
             with volume.transaction():
                 bank[0:8] = (93).to_bytes(8, "little")
@@ -339,11 +351,12 @@ class Volume:
             raise
 
     def close(self) -> None:
-        """Ends the session, and closes its plain memory; changes since the last commit are gone. It waits for the calls
-        of other threads, and is a RuntimeError from within a call of its own, as a signal's handler may be.
+        """Ends the session, and closes its plain memory. Changes since the last commit are lost. Waits for the calls of
+        other threads. In a forked process it does nothing.
 
-        BufferError where somebody has a buffer of plain memory: then the volume stays open. Device where a write or a
-        sync failed: then it is closed, and what was acknowledged is kept."""
+        Raises BufferError if somebody has a buffer of plain memory; the volume then stays open. Raises Device if a
+        write or a sync failed; the volume is then closed, and all acknowledged commits are durable. Raises RuntimeError
+        within a call with this volume, for instance in a signal handler."""
         check(self._session.end(self._close_memories))
 
     def _close_memories(self) -> None:
