@@ -11,7 +11,7 @@ from types import TracebackType
 from typing import Any, Dict, Iterator, List, NamedTuple, NoReturn, Optional, Tuple, Type, Union
 
 from . import _library
-from ._errors import Argument, Broken, Busy, Device, Error, NoFile, Unmarked, check
+from ._errors import Argument, Broken, Busy, Error, NoFile, check
 from ._library import Options, library, words
 from ._memory import Lent, Memory, open_memory
 from ._session import Once, Session
@@ -335,7 +335,7 @@ class Volume:
     @contextmanager
     def transaction(self) -> Iterator[None]:
         """Commits at the end of the `with` block. If the block raises an exception, or the commit fails, all changes
-        are rolled back, and the exception is raised again. After Device, Broken and Unmarked there is no rollback.
+        are rolled back, and the exception is raised again. If the session is over, there is nothing to roll back.
 
             with volume.transaction():
                 bank[0:8] = (93).to_bytes(8, "little")
@@ -344,10 +344,9 @@ class Volume:
         try:
             yield
             self.commit()
-        except (Device, Unmarked, Broken):  # the session is over
-            raise
         except BaseException:
-            self.rollback()
+            with suppress(Broken):  # a write or a sync failed, so the session is over
+                self.rollback()
             raise
 
     def close(self) -> None:

@@ -203,6 +203,27 @@ class InASession(InAFolder):
             volume.read("a", 2)
         self.assertEqual((caught.exception.done, caught.exception.read), (PAGE - 2, b"rst" + bytes(PAGE - 5)))
 
+    def test_a_transaction_in_which_a_read_fails(self):
+        """The session goes on, so the changes of the block are undone."""
+        volume = self.opened()
+        size = os.path.getsize("v.img")
+        with self.assertRaises(famsync.Device), volume.transaction():
+            volume.write("a", 0, b"first")
+            os.truncate("v.img", size - 10 * PAGE)
+            volume.read("a", 100000)
+        os.truncate("v.img", size)
+        self.assertEqual((volume.read("a", 0, 5), volume.commit()), (bytes(5), 1))
+
+    def test_a_transaction_in_which_a_write_fails(self):
+        volume = self.opened()
+        with self.assertRaises(famsync.Device) as caught, volume.transaction():
+            volume.write("a", 0, b"first")
+            with limited(resource.RLIMIT_FSIZE, PAGE):
+                volume.commit()
+        self.assertEqual(caught.exception.errno, errno.EFBIG)
+        self.assertRaises(famsync.Broken, volume.read, "a")
+        self.assertRaises(famsync.Device, volume.close)
+
     def test_no_memory(self):
         self.make(8, f"big={1 << 28}")
         volume = self.opened()
