@@ -23,7 +23,6 @@ use volume_codec::Super;
 ///
 /// On an honest device reads return what was written. `crashes_alike` and `works_unless_failed` state what a crash of
 /// the device leaves.
-/// the device leaves.
 #[derive(Drop)]
 pub struct LogDisk<D: Device, A: Allocator + Copy> {
     pub(crate) disk: DiskParts<D, A>,
