@@ -1,6 +1,7 @@
 /*
- * libfamsync: a library for the files of a volume. A volume is one disk file that contains up to 64
- * files. Changes to these files become durable together. The library runs in the caller's process.
+ * libfamsync: a library for the files of a volume. A volume is one disk file (the volume's file)
+ * that contains up to 64 files. Changes to these files become durable together. The library runs in
+ * the caller's process.
  *
  * famsync_format and the command `famsync format` make volumes. famsync_open opens and locks a
  * volume's file, begins a session with the volume, and returns a handle for this session. At any
@@ -23,8 +24,9 @@
  * acknowledged.
  *
  * A page is 4,096 bytes of a file. A block is 4,096 bytes of the volume's file. Each page has a
- * block of its own, the page's place. A commit first writes its pages to a journal or to the log.
- * These are other parts of the volume's file. Later the library writes the pages to their places.
+ * block of its own, called the page's place. A commit first writes its pages to a journal or to the
+ * log. Journals and the log are other parts of the volume's file. Later the library writes the
+ * pages to their places.
  *
  * Each call of type int returns FAMSYNC_OK or one of the negative codes below. famsync_strerror
  * describes a code. Any number of threads may use one handle at the same time: their calls take
@@ -77,23 +79,25 @@ enum famsync_code {
     FAMSYNC_NOTREGULAR = -13, /* the path names a folder, a device, a pipe or a socket */
     FAMSYNC_NAMES = -14,      /* the file has several names (hard links), so another process could
                                  use it under another name */
-    FAMSYNC_REPLACED = -15,   /* after each attempt to lock the file, the path named another file */
+    FAMSYNC_REPLACED = -15,   /* each time the library had locked a file, the path named another
+                                 file by then */
     FAMSYNC_NOTAVOLUME = -16, /* the file doesn't begin like a volume */
     FAMSYNC_DAMAGED = -17,    /* the file begins like a volume, but its bytes or its length break
                                  the rules of the format */
-    FAMSYNC_SHAPE = -18,      /* the option `frames` is above the limit of the volume */
+    FAMSYNC_SHAPE = -18,      /* the option `frames` is larger than the number of pages that one
+                                 commit to this volume can have */
 
     /* why an access or a commit is refused */
-    FAMSYNC_NOFRAME = -27, /* more pages were written, or added to a file, than one commit can
-                              have */
+    FAMSYNC_NOFRAME = -27, /* the pages that were written, or added to a file, are more than one
+                              commit can have */
     FAMSYNC_DEVICE = -28,  /* a read, a write or a sync of the volume failed; errno has the cause */
     FAMSYNC_BROKEN = -29,  /* a write or a sync failed earlier, so the session is over */
-    FAMSYNC_EINVAL = -30,  /* bytes past the file's end, or a length that the file can't have */
+    FAMSYNC_EINVAL = -30,  /* a write past the file's end, or a length that the file can't have */
     FAMSYNC_OVERLAP = -33, /* plain memory of the file is already open */
     FAMSYNC_NOFILE = -34,  /* the volume has no such file */
     FAMSYNC_BUSY = -35,    /* another backup is being made; or, with FAMSYNC_TRACK_KERNEL, a thread
-                              stored during a commit; or the session has no number left for a
-                              commit, after 2^32 - 1 commits */
+                              stored during a commit; or the session has already made 2^32 - 1
+                              commits */
 
     /* suspect flags that can't be made, and sessions that only read */
     FAMSYNC_UNMARKED = -39,     /* a sync failed, and the library couldn't make the suspect flag */
@@ -109,31 +113,31 @@ enum famsync_code {
 typedef struct famsync famsync;
 typedef struct famsync_memory famsync_memory;
 
-/* A buffer of this size has room for each message of famsync_open. The longest message contains two
-   paths. */
+/* A buffer of this size has room for any message of famsync_open (see the option `message`). The
+   longest message contains two paths. */
 #define FAMSYNC_MESSAGE_SIZE 9000
 
-/* The options of famsync_open. A null pointer means the defaults, which are all zero.
+/* The options of famsync_open. A null pointer as `options` means that all options are 0.
 
    Set `size` to the size of this structure. Later versions of the library add fields at the end.
-   From `size` the library knows which fields a program has. If `size` is 0, the library uses only
-   the fields up to `readonly`. If `size` is larger than this structure, all bytes after the fields
-   below must be 0 (otherwise FAMSYNC_ARGUMENT). */
+   From `size` the library knows which fields the program's structure has. If `size` is 0, the
+   library uses only the fields up to and including `readonly`. If the program's structure is larger
+   than the library's own, all bytes after the library's fields must be 0 (otherwise
+   FAMSYNC_ARGUMENT). */
 struct famsync_options {
     size_t size;
     int trust;           /* not 0: open a volume that is flagged as suspect, and remove the flag */
     unsigned frames;     /* the most pages that one commit may have; 0 means the limit of the
                             volume */
-    unsigned copies;     /* ignored; it only keeps the offsets of later fields */
+    unsigned copies;     /* ignored; without it the fields below would have other offsets */
     int foreground;      /* not 0: the library starts no thread (see famsync_msync) */
     char *message;       /* a buffer for one line that explains why the volume wasn't opened */
     size_t message_size; /* the buffer's size in bytes; a longer message is cut off */
     unsigned wait_ms;    /* how long to wait for a volume that is in use, in milliseconds */
     int readonly;        /* not 0: the session only reads */
-    int resident;        /* not 0: famsync_memory_open reads the whole file, instead of mapping the
-                            volume's file */
-    size_t budget;       /* the number of bytes that committed pages of plain memory and their
-                            copies may use; 0 means 64 MB */
+    int resident;        /* not 0: famsync_memory_open reads the whole file instead of mapping it */
+    size_t budget;       /* the number of bytes that committed pages of plain memory and the
+                            library's copies of them may use; 0 means 64 MB */
     int tracking;        /* FAMSYNC_TRACK_SIGNALS or FAMSYNC_TRACK_KERNEL; see
                             famsync_memory_open */
 };
@@ -158,9 +162,9 @@ struct famsync_new_file {
 struct famsync_plan {
     size_t size;
     unsigned layout; /* 1 to 6; 0 means 4 */
-    /* The number of slots of each journal: 1 to 1,020 in layouts 1 and 2, 2 to 1,020 in layout 3, 2
-       to 65,535 in layout 4. A slot has room for one page. 0 means 1,024 in layout 4, and 1,020 in
-       layouts 1 to 3. Layouts 5 and 6 have no journals, so `slots` has to be 0. */
+    /* The number of slots of each journal: 1 to 1,020 in layouts 1 and 2; 2 to 1,020 in layout 3;
+       2 to 65,535 in layout 4. A slot has room for one page. 0 means 1,024 in layout 4, and 1,020
+       in layouts 1 to 3. Layouts 5 and 6 have no journals, so `slots` has to be 0. */
     unsigned slots;
     unsigned files;                      /* the number of files, 1 to 64 */
     const struct famsync_new_file *file; /* the files */
@@ -179,19 +183,21 @@ struct famsync_plan {
    the call succeeds, the volume is durable. The volume has the same bytes as a volume that `famsync
    format` makes with the same layout, slots, files, log and key. If the call fails or the process
    is killed, there is either the whole volume or no new file with this path. If unnamed files
-   (O_TMPFILE) or /proc are missing, the library first makes the volume in the file VOLUME.new
-   (VOLUME is this path). A crash may leave VOLUME.new.
+   (O_TMPFILE) aren't supported or /proc isn't available, the library makes the volume in the file
+   VOLUME.new (VOLUME is this path), and then renames this file. VOLUME.new may remain if the
+   process is killed or the system crashes.
 
    A commit has at most `slots` pages in layouts 1 and 2, and at most `slots` - 1 pages in layouts 3
-   and 4. In layouts 5 and 6 a commit has to fit into the log, together with a list of its pages,
-   one block for the lengths, and one free block. So with a log of 16,384 blocks a commit has at
+   and 4. In layouts 5 and 6 the log must have room for a commit's pages, a list of these pages, one
+   block for the files' lengths, and one free block. So with a log of 16,384 blocks a commit has at
    most 16,366 pages. In all layouts a commit has at most 65,534 pages. Without `preallocate`, the
-   first write to a block fails if the disk is full. Then the session is over (FAMSYNC_DEVICE).
+   first write to a block fails if the disk is full. Such a failure ends the session
+   (FAMSYNC_DEVICE).
 
    In layouts 5 and 6 a commit writes its pages only to the log. Later the library writes the pages
    of many commits to their places together. A commit makes two syncs in layout 5, and one in layout
-   6. Layout 6 needs an assumption that layouts 1 to 5 don't need: a commit that a crash has torn
-   (written only partly) never matches its digest (checksum).
+   6. Layout 6 needs an assumption that layouts 1 to 5 don't need: a commit torn by a crash (written
+   only partly) never matches its digest (checksum).
 
    FAMSYNC_ARGUMENT: the plan is invalid; `message` has the reason. FAMSYNC_SYSTEM with EEXIST:
    VOLUME or VOLUME.new already exists. */
@@ -204,7 +210,7 @@ int famsync_format(const char *volume, const struct famsync_plan *plan);
 
    FAMSYNC_INUSE: another session still has the volume open after `wait_ms` milliseconds.
    FAMSYNC_SYSTEM with ENAMETOOLONG: the name of the volume's file has more than 247 bytes, so the
-   name of the suspect flag (VOLUME.suspect) would be too long.
+   name of the suspect flag's file (VOLUME.suspect) would be too long.
 
    With `readonly` any number of sessions can share a volume. The library opens the file only for
    reading, and writes nothing. During these sessions no session that writes can begin. With
@@ -220,14 +226,14 @@ int famsync_open(const char *volume, const struct famsync_options *options, fams
    close all plain memory of the handle (otherwise FAMSYNC_ARGUMENT). No other call with the handle
    may be in progress. The call writes committed pages to their places before the session ends.
    FAMSYNC_DEVICE: a read failed in this call, or a write or a sync failed in this call or earlier.
-   If the call returns FAMSYNC_DEVICE, FAMSYNC_UNMARKED or FAMSYNC_NOMEMORY, the handle is freed,
-   too, and all acknowledged commits are durable. */
+   Even if the call returns FAMSYNC_DEVICE, FAMSYNC_UNMARKED or FAMSYNC_NOMEMORY, the handle is
+   freed, and all acknowledged commits are durable. */
 int famsync_close(famsync *handle);
 
 /* famsync_files returns the number of files of the volume. Files are numbered from 0.
    famsync_file_name returns the name of a file, or a null pointer if there is no such file.
-   famsync_file_length returns the length of a file in this session, committed or not. It returns 0
-   if there is no such file. */
+   famsync_file_length returns the length that a file has in this session, even if this length isn't
+   committed yet. It returns 0 if there is no such file. */
 unsigned famsync_files(const famsync *handle);
 const char *famsync_file_name(const famsync *handle, unsigned file);
 uint64_t famsync_file_length(const famsync *handle, unsigned file);
@@ -236,14 +242,14 @@ uint64_t famsync_file_length(const famsync *handle, unsigned file);
 unsigned famsync_frames(const famsync *handle);
 
 /* Sets the length of a file, as ftruncate does. FAMSYNC_EINVAL: the length is more than the file's
-   capacity, or the volume has layout 1 or 2. Bytes past a new end are lost. If the file grows, the
-   added bytes are zeros. Like a write, the new length becomes durable with the next famsync_msync.
-   The new length is lost if the session ends before that.
+   capacity, or the volume has layout 1 or 2. If the file shrinks, the bytes past its new end are
+   lost. If the file grows, the added bytes are zeros. Like a write, the new length becomes durable
+   with the next famsync_msync. The new length is lost if the session ends before that.
 
-   All pages that are added to a file count as written. If the file ended within a page before it
-   grew, this page counts as written, too. FAMSYNC_NOFRAME: together with the pages that already
-   wait for a commit, these pages are more than one commit can have. Then grow the file in steps,
-   with an msync after each step. A call that fails changes nothing.
+   All pages that are added to a file wait for the next commit, like written pages. If the file
+   ended within a page before it grew, this page waits, too. FAMSYNC_NOFRAME: together with the
+   pages that waited before the call, these pages are too many for one commit. In this case grow the
+   file in steps, with an msync after each step. A call that fails changes nothing.
 
    If plain memory of the file is open, this memory grows or shrinks in place. The program must no
    longer use bytes past the new end. FAMSYNC_SYSTEM: the system refused to change the memory. */
@@ -262,9 +268,9 @@ int famsync_read(famsync *handle, unsigned file, uint64_t offset, void *bytes, s
 
    FAMSYNC_EINVAL: a byte would be past the file's end; famsync_setlength makes a file longer.
    FAMSYNC_NOFRAME: together with the pages that already wait for a commit, the pages of this write
-   are more than one commit can have. In both cases nothing is written. FAMSYNC_DEVICE: the call
-   writes only a part of a page, and the library failed to read the rest of this page. After
-   FAMSYNC_DEVICE and FAMSYNC_NOMEMORY, `*done` is the number of bytes written before the failure.
+   are too many for one commit. In both cases nothing is written. If the call writes only a part of
+   a page, the library first reads the rest of this page. FAMSYNC_DEVICE: this read failed. After
+   FAMSYNC_DEVICE or FAMSYNC_NOMEMORY, `*done` is the number of bytes written before the failure.
 
    If plain memory of the file is open, famsync_read and famsync_write use this memory. A write is
    then a store to this memory. Such a write makes its pages writable, as famsync_memory_touch
@@ -280,37 +286,38 @@ int famsync_write(famsync *handle, unsigned file, uint64_t offset, const void *b
    FAMSYNC_NOFRAME: famsync_write and stores to plain memory have together changed more pages than
    one commit can have. Nothing is committed, and no later call can commit all these changes. If you
    close the plain memory of a file, the stores to this memory are lost. The next call can then
-   commit the other changes, if one commit can have their pages.
+   commit the other changes, if their pages aren't too many for one commit.
 
    FAMSYNC_DEVICE: a read, a write or a sync failed, and nothing is acknowledged. If errno is
    ENOMEM, the system refused memory, and the disk didn't fail. After a failed read the session
    continues, and you may call again. The session is over after a failed write or sync, or if there
-   was no memory to record a write or a sync. Then later calls with the handle, except
+   was no memory to prepare a write or a sync. Then later calls with the handle, except
    famsync_close, return FAMSYNC_BROKEN.
 
    After a failed sync the library flags the volume as suspect: like the program `famsync`, it makes
    the file VOLUME.suspect beside the volume's file. FAMSYNC_UNMARKED: a sync failed, and the
    library couldn't make this flag durable. So the next session might not notice the failed sync.
 
-   Some writes of a commit come after its acknowledgement. A thread of the library makes these
-   writes while no call is in progress, or the next commit makes them. In layouts 4 to 6 the thread
-   first waits until 10 ms pass without a commit. But in layouts 5 and 6 the thread doesn't wait
-   once half of the log is in use. With `foreground` there is no such thread. */
+   After a commit is acknowledged, the library writes the commit's pages to their places. A thread
+   of the library does this while no call is in progress, or a later call does it. In layouts 4 to 6
+   the thread begins when 10 ms have passed without a commit. In layouts 5 and 6 it also begins when
+   half of the log is in use. With `foreground` there is no such thread. */
 int famsync_msync(famsync *handle, uint64_t *mark);
 
 /* Undoes all changes of this session since the last commit: writes, lengths and stores to plain
    memory. Other threads may store during the call, except with FAMSYNC_TRACK_KERNEL. The call
-   undoes exactly the stores before one moment within the call. If the length of a file is undone,
+   undoes exactly the stores before one moment within the call. If a new length of a file is undone,
    plain memory of this file grows or shrinks in place, as with famsync_setlength.
 
-   In most cases the call first writes the pages of earlier commits to their places. If a write or a
-   length waits for a commit, the library also opens the volume a second time. During the call this
-   second opening needs as much memory as another session.
+   In most cases the call first writes committed pages to their places. If a write or a new length
+   waits for a commit, the library also opens the volume a second time. During the call this second
+   opening needs as much memory as another session.
 
-   A call that fails undoes nothing, with two exceptions. FAMSYNC_DEVICE: a read, a write or a sync
-   failed, as with famsync_msync. If this failure came after the undoing, all changes are undone,
-   and the session is over. FAMSYNC_SYSTEM: the system refused to change memory. If a part of the
-   changes may already be undone, commits fail with FAMSYNC_TORN until a rollback succeeds. */
+   A call that fails undoes nothing, with two exceptions. FAMSYNC_DEVICE or FAMSYNC_UNMARKED: a
+   read, a write or a sync failed, as with famsync_msync. If this failure came after the undoing,
+   all changes are undone, and the session is over. FAMSYNC_SYSTEM: the system refused to change
+   memory. If this refusal came during the undoing, a part of the changes may be undone. Then
+   commits fail with FAMSYNC_TORN until a rollback succeeds. */
 int famsync_rollback(famsync *handle);
 
 /* Returns the number of the last acknowledged commit of this session, or 0 if there is none. */
@@ -321,12 +328,13 @@ const char *famsync_strerror(int code);
 
 /* Statistics of a session. Set `size` to the size of this structure; with a smaller size
    famsync_stat returns FAMSYNC_ARGUMENT. Later versions of the library add fields at the end. If a
-   program has fields of a later version, famsync_stat sets these fields to 0. System calls are
-   counted from the beginning of the session, including calls that failed or were interrupted. */
+   program was built with the header of a later version, famsync_stat sets the added fields to 0.
+   System calls are counted from the beginning of the session, including calls that failed or were
+   interrupted. */
 struct famsync_stat {
     size_t size;
     uint64_t commits;       /* the number of the last acknowledged commit */
-    uint64_t frames;        /* the most pages of one commit */
+    uint64_t frames;        /* the most pages that one commit can have */
     uint64_t staged;        /* pages that wait for a commit, including those of plain memory */
     uint64_t unwritten;     /* committed pages that aren't yet written to their places; in layouts
                                5 and 6, blocks of the log that are in use */
@@ -334,7 +342,8 @@ struct famsync_stat {
     uint64_t writes;        /* writes to the volume's file */
     uint64_t syncs;         /* syncs of the volume's file */
     uint64_t bytes_written; /* bytes written to the volume's file */
-    uint64_t memory;        /* bytes that all sessions of this process use for pages and commits */
+    uint64_t memory;        /* bytes of memory that all sessions of this process use for pages and
+                               commits, without plain memory */
 };
 
 int famsync_stat(famsync *handle, struct famsync_stat *stat);
@@ -351,10 +360,10 @@ int famsync_stat(famsync *handle, struct famsync_stat *stat);
    until the call returns. FAMSYNC_INUSE: this file is already locked.
 
    FAMSYNC_SYSTEM: the library couldn't write the backup's file. FAMSYNC_DEVICE: the library
-   couldn't read the volume (the session continues), or couldn't write to the volume (the session is
-   over). After a failure one of three things is true: the backup's file is unchanged, it isn't a
-   volume, or it is a whole backup that might not be durable. A failed backup doesn't make any
-   commit fail. */
+   couldn't read the volume (the session continues), or couldn't write committed pages to their
+   places (the session is over). After a failure one of three things is true: the backup's file is
+   unchanged, it isn't a volume, or it is a whole backup that might not be durable. If the session
+   continues, a failed backup doesn't make any commit fail. */
 int famsync_backup(famsync *handle, int descriptor);
 
 /*
@@ -364,11 +373,12 @@ int famsync_backup(famsync *handle, int descriptor);
  * notes the store, and makes the page writable. It passes other faults to the handler that was
  * installed earlier.
  *
- * A page that was stored to uses memory of this process. Once the page is committed and written to
- * its place, the library can return the page's memory to the system. The library does this when the
- * committed pages in memory and their copies use more than `budget` bytes. In layouts 5 and 6 the
- * pages in the log aren't yet in their places, so they stay in memory. The memory can then exceed
- * the budget by up to twice the log's length.
+ * A page that was stored to needs memory of its own, and so does the copy that a commit makes of
+ * it. Once the page is committed and written to its place, the library can return the memory of
+ * both to the system. The library does this when committed pages and their copies use more than
+ * `budget` bytes. In layouts 5 and 6 the pages in the log aren't yet in their places, so they stay
+ * in memory. In these layouts committed pages and their copies can exceed the budget by up to twice
+ * the log's length.
  *
  * As with any mapped file, a load raises SIGBUS if the volume's file can't be read or was
  * truncated. In a forked process, a page that wasn't stored to before the fork may have the bytes
@@ -378,18 +388,19 @@ int famsync_backup(famsync *handle, int descriptor);
  * map the volume's file.
  *
  * With FAMSYNC_TRACK_SIGNALS other threads may store during a commit. A commit contains exactly the
- * stores by all threads, to all plain memory of the handle, before one moment within famsync_msync.
- * At that moment the library makes all pages read-only again. Then it copies the pages that were
- * stored to. A store during the copying waits until the copying ends, but never for the disk. If
- * stores of several threads belong together, make them all before a commit begins.
+ * stores made before one moment within famsync_msync. This moment is the same for all threads, and
+ * for all plain memory of the handle. At this moment the library makes all pages read-only again.
+ * Then it copies the pages that were stored to. A store during the copying waits until the copying
+ * ends, but not for the commit's writes and syncs. If stores of several threads belong together,
+ * make them all between two commits.
  *
  * Some stores don't reach the library's handler:
  *
  * - A store by the kernel raises no signal: read(2) and similar calls fail with EFAULT if they
  *   store to a page that isn't writable yet.
  * - If a thread that blocks SIGSEGV stores to such a page, the system kills the process.
- * - If the program later installs another handler of SIGSEGV, the new handler gets the library's
- *   faults. The new handler should pass them to the previous handler.
+ * - If the program later installs another handler of SIGSEGV, the new handler gets the signals of
+ *   stores to plain memory. The new handler should pass them to the previous handler.
  *
  * In all three cases the program can make pages writable in advance with famsync_memory_touch. If
  * another handler has replaced the library's handler, the next famsync_memory_open installs the
@@ -399,11 +410,11 @@ int famsync_backup(famsync *handle, int descriptor);
  * read(2) and similar calls. Each commit asks the kernel which pages were stored to. Other threads
  * must not store during famsync_msync, famsync_rollback and famsync_setlength. If another thread
  * stores while a commit copies pages, the commit repeats the copying. After four attempts
- * famsync_msync returns FAMSYNC_BUSY, and nothing is committed. At its end a commit may return
- * committed pages to the system (see `budget`). If another thread stores to these pages at that
- * time, the store may be lost. FAMSYNC_TRACKING, from famsync_open or famsync_memory_open: the
- * system can't track stores (Linux can from 6.7 on). FAMSYNC_ARGUMENT, from famsync_open: the
- * options have both FAMSYNC_TRACK_KERNEL and `resident`.
+ * famsync_msync returns FAMSYNC_BUSY, and nothing is committed. When a commit ends, it may return
+ * the memory of committed pages to the system (see `budget`). If another thread stores to these
+ * pages at that time, the store may be lost. FAMSYNC_TRACKING, from famsync_open or
+ * famsync_memory_open: the system can't track stores (Linux can from 6.7 on). FAMSYNC_ARGUMENT,
+ * from famsync_open: the options have both FAMSYNC_TRACK_KERNEL and `resident`.
  *
  * If the file ends within its last page, stores to the rest of this page are never committed. The
  * addresses after the last page, up to the file's capacity, are reserved: the program must not use
@@ -412,10 +423,10 @@ int famsync_backup(famsync *handle, int descriptor);
 int famsync_memory_open(famsync *handle, const char *file, famsync_memory **memory);
 
 /* Opens plain memory at a given address, so that the file can contain pointers into itself. A null
-   pointer means any address. The memory occupies the addresses of the file's whole capacity, of one
-   page before them, and of one page after them. FAMSYNC_ADDRESS has four possible reasons: the
-   address isn't a multiple of the page size; the occupied addresses begin below 65,536; they end
-   above the highest address; they contain other memory. */
+   pointer means any address. The memory occupies the addresses for the file's whole capacity, the
+   page before them, and the page after them. FAMSYNC_ADDRESS has four possible reasons: the address
+   isn't a multiple of the page size; the occupied addresses begin below 65,536; they end above the
+   highest address; they contain other memory. */
 int famsync_memory_open_at(famsync *handle, const char *file, void *address, famsync_memory **memory);
 
 /* famsync_memory_at returns the address of the memory. This address never changes.
@@ -434,9 +445,9 @@ size_t famsync_memory_dirty(const famsync_memory *memory);
    has more pages than one commit can have. In both cases nothing changes. */
 int famsync_memory_touch(famsync_memory *memory, size_t offset, size_t count);
 
-/* Closes the memory. Stores since the last commit are lost. After the call begins, no thread may
-   use the memory. If an earlier famsync_msync failed after it had prepared some of these stores for
-   its commit, commits fail with FAMSYNC_TORN until a rollback succeeds. */
+/* Closes the memory. After the call begins, no thread may use the memory. Stores to the memory
+   since the last commit are lost. If a failed famsync_msync has already prepared some of these
+   stores for its commit, later commits fail with FAMSYNC_TORN until a rollback succeeds. */
 int famsync_memory_close(famsync_memory *memory);
 
 #ifdef __cplusplus

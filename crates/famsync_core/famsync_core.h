@@ -1,15 +1,15 @@
 /*
- * famsync_core (the core) is a library for sessions with volumes. It is proved, and makes no system
- * call.
+ * famsync_core (the core) is a library for programs that use volumes. It makes no system call. It is
+ * proved: docs/CLAIMS.md lists the claims.
  *
  * A volume is a disk file that contains files. The program that uses the core is its host. The host
  * reads blocks of the volume, and supplies them to the core. The core keeps in memory the pages
- * that wait for a commit. To make a commit durable, the core records calls. A recorded call is a
- * write or a sync of the volume's file. The host makes these calls in order, and then reports them
- * to the core as made. A recorded call waits until the host has reported it. The host decides how
- * to make a call. The core decides which bytes are written, and where.
+ * that wait for a commit. To make a commit durable, the core records calls for the host to make. A
+ * recorded call is a write or a sync of the volume's file. The host makes these calls in order, and
+ * then reports them to the core as made. A recorded call waits until the host has reported it. The
+ * host decides how to make a call. The core decides which bytes are written, and where.
  *
- * This program writes the first page of the first file, and commits. `tests/lint/core_header`
+ * The program below writes the first page of the first file, and commits. `tests/lint/core_header`
  * compiles and runs the program.
  *
  *   static void supply(famsync_core *core, int file, uint32_t block)
@@ -63,12 +63,15 @@
  *       return close(file);
  *   }
  *
- * A function takes the handle by value. Its last argument is `&core.at` of the same handle: the
- * function sets `core.at` for the next function call. No function checks its handle. Pass the
- * handle as the previous function call set it. This handle must not be null or closed. Only one
- * function at a time may use a handle. A pointer with a count must point to this number of bytes.
- * If the count is 0, the pointer may be any pointer except null. The bytes that famsync_core_call
- * returns are valid until another function is called with the same handle.
+ * A session with a volume begins with famsync_core_begin, and ends with famsync_core_close. The
+ * session has a handle of type famsync_core, called `core` here. Each function except
+ * famsync_core_begin takes `core` by value. The last argument of each function except
+ * famsync_core_close is `&core.at`: the function sets `core.at` for the next function call. No
+ * function checks its handle. Pass the handle with the `at` that the previous function call set.
+ * This handle must not be null or closed. Only one function at a time may use a handle. A pointer
+ * argument followed by `count` must point to `count` bytes. If `count` is 0, the pointer may be any
+ * pointer except null. The bytes that famsync_core_call returns are valid until a function other
+ * than famsync_core_call is called with the same handle.
  *
  * The core requests memory through three functions that the host defines: rattle_alloc,
  * rattle_realloc and rattle_dealloc (below).
@@ -99,17 +102,20 @@ typedef struct {
 
 enum famsync_core_code {
     FAMSYNC_CORE_OK = 0,
-    FAMSYNC_CORE_WANTED = 1, /* supply the block `*wanted`, and make the same call again */
-    FAMSYNC_CORE_NONE = 2,   /* no such call waits, no step remains, there is no log, or the block
-                                is kept */
+    FAMSYNC_CORE_WANTED = 1, /* supply the block `*wanted`, and repeat the function call */
+    FAMSYNC_CORE_NONE = 2,   /* no call with this index waits, no step of famsync_core_write_out
+                                remains, the volume has no log, or famsync_core_forget keeps the
+                                block */
 
     FAMSYNC_CORE_ARGUMENT = -1, /* an argument is invalid */
     FAMSYNC_CORE_NOMEMORY = -2, /* memory was refused */
     FAMSYNC_CORE_ORDER = -3,    /* the volume isn't open yet, or is already open */
 
     /* why a volume isn't opened */
-    FAMSYNC_CORE_NOTAVOLUME = -11, /* the blocks don't begin like a volume of any layout */
-    FAMSYNC_CORE_DAMAGED = -12,    /* the blocks begin like a volume, but break the format */
+    FAMSYNC_CORE_NOTAVOLUME = -11, /* block 0 doesn't begin with the magic of a layout
+                                      (docs/FORMATS.md) */
+    FAMSYNC_CORE_DAMAGED = -12,    /* block 0 begins with the magic of a layout, but the volume
+                                      breaks the format */
 
     /* why a request is refused; the same numbers as in famsync.h */
     FAMSYNC_CORE_NOFRAME = -27, /* more pages were written, or added to a file, than one commit can
@@ -117,8 +123,8 @@ enum famsync_core_code {
     FAMSYNC_CORE_DEVICE = -28,  /* memory was refused, so a call couldn't be recorded */
     FAMSYNC_CORE_BROKEN = -29,  /* DEVICE was returned earlier: close the session, and open the
                                    volume again */
-    FAMSYNC_CORE_EINVAL = -30,  /* the page begins past the file's end, or the length is more than
-                                   the capacity */
+    FAMSYNC_CORE_EINVAL = -30,  /* the page begins at or past the file's end, or the new length is
+                                   above the file's capacity */
     FAMSYNC_CORE_NOFILE = -34,  /* the volume has no such file */
     FAMSYNC_CORE_BUSY = -35,    /* the session has made 2^32 - 1 commits, or the log has no unused
                                    epoch or commit number (docs/FORMATS.md) */
@@ -134,9 +140,9 @@ enum famsync_core_kind { FAMSYNC_CORE_CALL_WRITE = 1, FAMSYNC_CORE_CALL_SYNC = 2
    Codes: OK, ARGUMENT (0 blocks), NOMEMORY. */
 int32_t famsync_core_begin(uint32_t blocks, uint8_t **at);
 
-/* Supplies a block that the host has read. `bytes` are the block's 4,096 bytes in the volume's
-   file, after all recorded calls that the host has made. If the block is already known, nothing
-   changes. You may call this function at any time, also before the volume is open.
+/* Supplies a block that the host has read. `bytes` are the block's 4,096 bytes as they are in the
+   volume's file after all recorded calls that the host has made. If the block is already known,
+   nothing changes. You may call this function at any time, also before the volume is open.
 
    Codes: OK, ARGUMENT (no such block, or `count` isn't 4,096), NOMEMORY. */
 int32_t famsync_core_supply(famsync_core core, uint32_t block, const uint8_t *bytes, size_t count, uint8_t **at);
@@ -146,35 +152,38 @@ int32_t famsync_core_supply(famsync_core core, uint32_t block, const uint8_t *by
 int32_t famsync_core_is_known(famsync_core core, uint32_t block, uint8_t **at);
 
 /* Opens the volume, which may have any layout. From then on a commit has at most `pages` pages. If
-   `pages` is 0, or above the limit of the volume's journals or log, that limit holds. Opening
-   always records calls. If a crash left commits that aren't home, some of the recorded calls write
-   these commits home.
+   `pages` is 0, or more than the volume's journals or log allow, only the journals or the log limit
+   a commit. A successful opening always records calls. If a crash left commits that aren't home,
+   some of the recorded calls write these commits home.
 
    Codes: OK, WANTED, NOTAVOLUME, DAMAGED, NOMEMORY or DEVICE (after either, close the handle, and
    begin again), BUSY (the log has no unused epoch), ORDER.
 
-   WANTED: a block isn't known. The volume isn't open, and no call was recorded. Opening wants block
-   0 first, and then these blocks (docs/FORMATS.md), one at a time, not always in this order:
+   WANTED: a block isn't known. After this code the volume isn't open yet, and no call was recorded.
+   Opening wants block 0 first, and then these blocks (docs/FORMATS.md), one at a time, not always
+   in this order:
 
    - from layout 3 on, the block of the lengths;
    - in a volume with journals, the gates and the open journals;
-   - in a volume with a log, the start of the log and the commits after the start. */
+   - in a volume with a log, the selector, the selected start, the log's commits, and blocks after
+     these commits. */
 int32_t famsync_core_open(famsync_core core, uint32_t pages, uint32_t *wanted, uint8_t **at);
 
 /* famsync_core_files returns the number of files of the volume. Files are numbered from 0.
-   famsync_core_frames returns the greatest number of pages of one commit. famsync_core_head returns
-   the number of blocks before the first file, including the blocks of the journals or the log.
-   Codes: ORDER. */
+   famsync_core_frames returns the greatest number of pages that a commit can have.
+   famsync_core_head returns the number of blocks before the first file, including the blocks of the
+   journals or the log. Codes: ORDER. */
 int64_t famsync_core_files(famsync_core core, uint8_t **at);
 int64_t famsync_core_frames(famsync_core core, uint8_t **at);
 int64_t famsync_core_head(famsync_core core, uint8_t **at);
 
-/* Returns 1 if commits share their syncs, and 0 otherwise. Commits share syncs in layout 4, and in
-   volumes with a log. Codes: ORDER. */
+/* Returns 1 if the syncs of a commit also serve to write earlier commits home, and 0 otherwise. The
+   answer is 1 in layout 4, and in volumes with a log. Codes: ORDER. */
 int32_t famsync_core_shares_syncs(famsync_core core, uint8_t **at);
 
-/* Sets `*length` to the length of a file in bytes, committed or not. Sets `*pages` to the greatest
-   number of pages that the file can have. Codes: OK, ARGUMENT (no such file), ORDER. */
+/* Sets `*length` to the length of a file in bytes, even if this length still waits for the next
+   commit. Sets `*pages` to the greatest number of pages that the file can have. Codes: OK, ARGUMENT
+   (no such file), ORDER. */
 int32_t famsync_core_file(famsync_core core, uint32_t file, uint64_t *length, uint64_t *pages, uint8_t **at);
 
 /* Copies the name of a file to `name`, which has room for `count` bytes. A name has 1 to 32 bytes
@@ -202,11 +211,11 @@ int64_t famsync_core_staged(famsync_core core, uint8_t **at);
 int32_t famsync_core_is_staged(famsync_core core, uint32_t file, uint64_t page, uint8_t **at);
 
 /* Makes a commit of all waiting pages and lengths. Records the calls that make this commit durable,
-   and may also record calls of earlier commits. If nothing waits, the commit needs no calls of its
-   own. Sets `*mark` to the commit's number, counted from 1 in each session. The commit is durable
-   once famsync_core_acknowledged returns this number or a higher one.
+   and may also record calls that write earlier commits home. If no page or length waits, the commit
+   needs no calls of its own. Sets `*mark` to the commit's number, counted from 1 in each session.
+   The commit is durable once famsync_core_acknowledged returns this number or a higher one.
 
-   Codes: OK, WANTED, NOMEMORY (make the same call again), BROKEN, DEVICE, BUSY, ORDER.
+   Codes: OK, WANTED, NOMEMORY (call this function again), BROKEN, DEVICE, BUSY, ORDER.
 
    WANTED and NOMEMORY are returned only for volumes with a log. If the log has no room for the
    commit, the function first makes steps that write older commits home. A step or the commit may
