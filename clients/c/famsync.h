@@ -336,8 +336,9 @@ struct famsync_stat {
     uint64_t commits;       /* the number of the last acknowledged commit */
     uint64_t frames;        /* the most pages that one commit can have */
     uint64_t staged;        /* pages that wait for a commit, including those of plain memory */
-    uint64_t unwritten;     /* committed pages that aren't yet written to their places; in layouts
-                               5 and 6, blocks of the log that are in use */
+    uint64_t unwritten;     /* layouts 1 to 4: blocks of commits that must still be written to their
+                               places, counted in each commit; layouts 5 and 6: blocks of the log
+                               that are in use */
     uint64_t reads;         /* reads of the volume's file */
     uint64_t writes;        /* writes to the volume's file */
     uint64_t syncs;         /* syncs of the volume's file */

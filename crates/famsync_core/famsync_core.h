@@ -1,6 +1,6 @@
 /*
- * famsync_core (the core) is a library for programs that use volumes. It makes no system call. It is
- * proved: docs/CLAIMS.md lists the claims.
+ * famsync_core (the core) is a library for programs that use volumes. The library is proved
+ * (docs/CLAIMS.md lists the claims), and makes no system call.
  *
  * A volume is a disk file that contains files. The program that uses the core is its host. The host
  * reads blocks of the volume, and supplies them to the core. The core keeps in memory the pages
@@ -219,39 +219,42 @@ int32_t famsync_core_is_staged(famsync_core core, uint32_t file, uint64_t page, 
 
    WANTED and NOMEMORY are returned only for volumes with a log. If the log has no room for the
    commit, the function first makes steps that write older commits home. A step or the commit may
-   need a block that isn't known. After either code no step is undone, and the pages still wait
-   for the commit. */
+   need a block that isn't known. If the function returns WANTED or NOMEMORY, it undoes no step, and
+   the pages still wait for the commit. */
 int32_t famsync_core_commit(famsync_core core, uint32_t *mark, uint32_t *wanted, uint8_t **at);
 
 /* Returns the number of the last acknowledged commit, or 0 if there is none. A commit is
    acknowledged, and durable, once the host has reported all recorded calls that waited when
    famsync_core_commit returned. Calls that were recorded later may still wait. If a second commit
-   is made before the first one is acknowledged, both are acknowledged together. Codes: ORDER. */
+   is made before the first one is acknowledged, the first one is acknowledged only together with
+   the second one. Codes: ORDER. */
 int64_t famsync_core_acknowledged(famsync_core core, uint8_t **at);
 
 /* Makes at most `most` steps, which write the pages of earlier commits home. Records the calls of
    these steps.
 
-   Codes: OK (steps remain), NONE (no step remains), WANTED, NOMEMORY (make the same call again),
+   Codes: OK (steps remain), NONE (no step remains), WANTED, NOMEMORY (call this function again),
    BROKEN, DEVICE, ORDER.
 
-   WANTED and NOMEMORY are returned only for volumes with a log. After either code no step
-   is undone. */
+   WANTED and NOMEMORY are returned only for volumes with a log. If the function returns either
+   code, it undoes no step. */
 int32_t famsync_core_write_out(famsync_core core, uint32_t most, uint32_t *wanted, uint8_t **at);
 
-/* Returns the number of committed pages that aren't home. For a volume with a log, the function
-   returns the number of log blocks in use instead, as famsync_core_log does. Codes: ORDER. */
+/* Returns the number of blocks that commits must still write home, counted in each commit. For a
+   volume with a log, the function returns the number of log blocks in use instead (`*used` of
+   famsync_core_log). Codes: ORDER. */
 int64_t famsync_core_unwritten(famsync_core core, uint8_t **at);
 
 /* For a volume with a log, sets `*blocks` to the number of blocks of the log, and `*used` to the
    number of its blocks in use. Sets `*commits` to the number of commits in the blocks in use. A
-   block is in use until the start of the log moves past it. Codes: OK, NONE (the volume has
-   journals, and nothing is set), ORDER. */
+   commit's blocks stay in use until the start of the log moves past the commit. Codes: OK, NONE
+   (the volume has journals, and nothing is set), ORDER. */
 int32_t famsync_core_log(famsync_core core, uint64_t *blocks, uint64_t *used, uint64_t *commits, uint8_t **at);
 
-/* Sets the length of a file, up to its capacity. The length becomes durable with the next commit.
-   If the file grows, the added pages count as written. If the file ended within a page before it
-   grew, this page counts as written, too. If the function fails, nothing changes.
+/* Sets the length of a file in bytes. The length can't be more than the file's capacity
+   (docs/FORMATS.md). The length becomes durable with the next commit. If the file grows, the added
+   pages wait for the next commit, like written pages. If the file ended within a page before it
+   grew, this page waits, too. If the function fails, nothing changes.
 
    Codes: OK, WANTED (the page in which the file ended isn't known), NOFILE, EINVAL (also if the
    volume has layout 1 or 2), BROKEN, NOFRAME, NOMEMORY, ORDER. */
@@ -289,11 +292,12 @@ int32_t famsync_core_forget(famsync_core core, uint32_t block, uint8_t **at);
    before the volume is open, but only once for each handle. */
 void famsync_core_close(famsync_core core);
 
-/* The host defines these three functions with malloc, realloc and free of one allocator. If the
-   allocator returns memory, `ok` is true, and `p` points to this memory. Otherwise `ok` is false,
-   and `p` points to any byte of the program, because `p` must never be null. `align` is at most 16.
-   rattle_realloc keeps the first `kept` bytes of the memory at `old`. If rattle_realloc fails, the
-   memory at `old` stays unchanged. If `size` is 0, request at least one byte from the allocator. */
+/* The host defines these three functions with malloc, realloc and free of one allocator.
+   rattle_alloc and rattle_realloc return `ok` and `p`. If the allocator returns memory, `ok` is
+   true, and `p` points to this memory. Otherwise `ok` is false, and `p` points to any byte of the
+   program, because `p` must never be null. `align` is at most 16. rattle_realloc keeps the first
+   `kept` bytes of the memory at `old`. If rattle_realloc fails, the memory at `old` stays
+   unchanged. If `size` is 0, request at least one byte from the allocator. */
 struct rattle_tried {
     bool ok;
     uint8_t *p;

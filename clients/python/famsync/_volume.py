@@ -27,7 +27,7 @@ class Stat(NamedTuple):
     commits: int  # the number of the last commit that was acknowledged
     frames: int  # the most pages of one commit
     staged: int  # pages that wait for a commit, those of plain memory, too
-    unwritten: int  # pages of commits that wait to be written to their places
+    unwritten: int  # blocks of commits that wait to be written to their places, or blocks of the log in use
     reads: int  # reads of the volume's file
     writes: int  # writes to it
     syncs: int  # syncs of it

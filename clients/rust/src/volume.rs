@@ -532,7 +532,8 @@ pub struct Stat {
     pub frames: u64,
     /// Pages that wait for a commit, including those of plain memory.
     pub staged: u64,
-    /// Pages of commits that wait to be written to their places.
+    /// Blocks of commits that wait to be written to their places, counted in each commit. In layouts 5 and 6: blocks of
+    /// the log that are in use.
     pub unwritten: u64,
     /// Reads of the volume's file.
     pub reads: u64,
