@@ -33,7 +33,7 @@ pub enum DeferredCall<'a> {
 /// Its content is a list that only proofs know. The disk is honest as long as each supplied block is the block of that
 /// list. If the host supplies other bytes, no clause on content applies to the disk.
 ///
-/// A write or a sync fails if memory can't be allocated, and then changes nothing but the counts.
+/// A write or a sync fails if memory can't be allocated, and then changes only the counts and what `wanted` returns.
 #[derive(Drop)]
 pub struct DeferredDisk<A: Allocator + Copy> {
     blocks: Blocks<A>,
