@@ -314,8 +314,9 @@ int famsync_msync(famsync *handle, uint64_t *mark);
    opening needs as much memory as another session.
 
    A call that fails undoes nothing, with two exceptions. FAMSYNC_DEVICE or FAMSYNC_UNMARKED: a
-   read, a write or a sync failed, as with famsync_msync. If this failure came after the undoing,
-   all changes are undone, and the session is over. FAMSYNC_SYSTEM: the system refused to change
+   read, a write or a sync failed. After a failure before the undoing, the session continues or is
+   over by the rules of famsync_msync. After a failure that came after the undoing, all changes are
+   undone, and the session is over. FAMSYNC_SYSTEM: the system refused to change
    memory. If this refusal came during the undoing, a part of the changes may be undone. Then
    commits fail with FAMSYNC_TORN until a rollback succeeds. */
 int famsync_rollback(famsync *handle);
