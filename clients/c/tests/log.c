@@ -204,8 +204,8 @@ static void count_syncs(int foreground, unsigned pages)
         WANT(atomic_load(&syncs) >= before + own);
         others += atomic_load(&syncs) - before - own;
     }
-    /* the thread may have had the time to make some */
-    if (foreground || atomic_load(&syncs) == 300 * own) {
+    /* After a pause of 10 ms, which a busy machine may cause, the library's thread writes more blocks home. */
+    if (foreground) {
         unsigned of_round = RING / 2 - 2 * commit_blocks(pages);
         WANT(others == 0);
         WANT(atomic_load(&home_blocks) <= pages * (300 * commit_blocks(pages) / of_round + 1));
