@@ -28,6 +28,10 @@ ssize_t pread(int file, void *bytes, size_t count, off_t offset)
     return syscall(SYS_pread64, file, bytes, count, offset);
 }
 
+/* No thread of the library makes the writes that the call of famsync_close is held in. (Options on the stack of a
+   thread that is cancelled would confuse AddressSanitizer.) */
+static const struct famsync_options foreground = {.foreground = 1};
+
 static famsync *handle, *second;
 static unsigned char byte;
 static char other[100];
@@ -52,8 +56,7 @@ static void *load(void *argument)
 static void *begin(void *argument)
 {
     (void)argument;
-    /* No thread of the library makes the writes that the call of famsync_close is held in. */
-    code = famsync_open(other, &(struct famsync_options){.foreground = 1}, &second);
+    code = famsync_open(other, &foreground, &second);
     pthread_testcancel();
     return NULL;
 }
