@@ -68,19 +68,19 @@ enum famsync_code {
     FAMSYNC_NOMEMORY = -2, /* the system refused memory */
     FAMSYNC_SYSTEM = -3,   /* a system call failed, and errno has the cause; EPROTO means a bug in
                               the library */
-    FAMSYNC_INUSE = -6,    /* the volume is already open, in this process or in another process */
-    FAMSYNC_SUSPECT = -7,  /* the volume has the suspect flag, because an earlier sync failed; see
-                              famsync_msync, and the option `trust` */
+    FAMSYNC_INUSE = -6,    /* Another session has the volume open. */
+    FAMSYNC_SUSPECT = -7,  /* The volume has the suspect flag: an earlier sync failed. See
+                              famsync_msync and the option `trust`. */
     FAMSYNC_FORKED = -11,  /* a forked process used its copy of the handle */
     FAMSYNC_TORN = -12,    /* plain memory was closed after a failed msync, or a rollback failed
                               halfway: call famsync_rollback before the next commit */
 
     /* why a volume isn't opened */
     FAMSYNC_NOTREGULAR = -13, /* the path names a folder, a device, a pipe or a socket */
-    FAMSYNC_NAMES = -14,      /* the file has several names (hard links), so another process could
-                                 use it under another name */
-    FAMSYNC_REPLACED = -15,   /* each time the library had locked a file, the path named another
-                                 file by then */
+    FAMSYNC_NAMES = -14,      /* The file has several names (hard links). Another process could use
+                                 it under another name. */
+    FAMSYNC_REPLACED = -15,   /* Other programs replaced the file again and again while the library
+                                 locked it. */
     FAMSYNC_NOTAVOLUME = -16, /* the file doesn't begin like a volume */
     FAMSYNC_DAMAGED = -17,    /* the file begins like a volume, but its bytes or its length break
                                  the rules of the format */

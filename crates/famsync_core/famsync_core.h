@@ -102,10 +102,10 @@ typedef struct {
 
 enum famsync_core_code {
     FAMSYNC_CORE_OK = 0,
-    FAMSYNC_CORE_WANTED = 1, /* supply the block `*wanted`, and repeat the function call */
-    FAMSYNC_CORE_NONE = 2,   /* no call with this index waits, no step of famsync_core_write_out
-                                remains, the volume has no log, or famsync_core_forget keeps the
-                                block */
+    FAMSYNC_CORE_WANTED = 1, /* The call lacks the block `*wanted`. Supply it, and call again. */
+    FAMSYNC_CORE_NONE = 2,   /* From famsync_core_call: no call with this index waits. From
+                                famsync_core_write_out: no step remains. From famsync_core_log: the
+                                volume has no log. From famsync_core_forget: the block is kept. */
 
     FAMSYNC_CORE_ARGUMENT = -1, /* an argument is invalid */
     FAMSYNC_CORE_NOMEMORY = -2, /* memory was refused */
