@@ -1,17 +1,17 @@
 /*
  * libfamsync: a library for the files of a volume. A volume is one disk file (the volume's file)
- * that contains up to 64 files. Changes to these files become durable together. The library runs in
- * the caller's process.
+ * that contains up to 64 files. A commit makes all changes to these files durable, or none. The
+ * library runs in the caller's process.
  *
  * famsync_format and the command `famsync format` make volumes. famsync_open opens and locks a
- * volume's file, begins a session with the volume, and returns a handle for this session. At any
- * time a volume has at most one session that writes, or any number of sessions that only read.
- * Sessions of the program `famsync` count, too.
+ * volume's file, and begins a session with the volume. The call sets `*handle` to the session's
+ * handle. At any time a volume has either one session that writes, or any number of sessions that
+ * only read. This rule includes sessions of the program `famsync`.
  *
  * A program can access the bytes of a file in two ways:
  *
- *   read and write   famsync_read, famsync_write, famsync_msync: any offset and any count, as with
- *                    pread and pwrite
+ *   read and write   famsync_read, famsync_write, famsync_msync: any offset and count in the file,
+ *                    as with pread and pwrite
  *   plain memory     famsync_memory_open, famsync_memory_at, famsync_msync: loads and stores
  *                    through a pointer
  *
@@ -24,22 +24,22 @@
  * acknowledged.
  *
  * A page is 4,096 bytes of a file. A block is 4,096 bytes of the volume's file. Each page has a
- * block of its own, called the page's place. A commit first writes its pages to a journal or to the
- * log. Journals and the log are other parts of the volume's file. Later the library writes the
+ * block of its own, called the page's place. The volume's file also contains journals or a log. A
+ * commit first writes the changed pages to a journal or to the log. Later the library writes these
  * pages to their places.
  *
- * Each call of type int returns FAMSYNC_OK or one of the negative codes below. famsync_strerror
- * describes a code. Any number of threads may use one handle at the same time: their calls take
+ * Each call that returns an int returns FAMSYNC_OK or one of the negative codes below.
+ * famsync_strerror describes a code. Any number of threads may use one handle. Their calls take
  * turns. No call is a cancellation point: if a thread is canceled within a call, the call still
  * completes.
  *
  * A forked process has a copy of the handle, but the session belongs to the process that called
- * famsync_open. In the forked process, each call of type int that takes the handle or its plain
- * memory returns FAMSYNC_FORKED. But famsync_close does nothing there, famsync_memory_close frees
- * the copied memory, and both return FAMSYNC_OK. The copied handle uses memory until the forked
- * process ends or calls exec. The forked process doesn't keep the volume locked. A child of vfork
- * shares the memory of its parent. Stores of the child to plain memory count as stores of the
- * parent. The child must not call the library.
+ * famsync_open. In the forked process, calls that return a code fail with FAMSYNC_FORKED if they
+ * use the copied handle or its plain memory. Two calls return FAMSYNC_OK instead: famsync_close
+ * does nothing, and famsync_memory_close frees the copied memory. The copied handle uses memory
+ * until the forked process ends or calls exec. The forked process doesn't keep the volume locked. A
+ * child of vfork shares the memory of its parent. Stores of the child to plain memory count as
+ * stores of the parent. The child must not call the library.
  *
  * A file can't grow past its capacity, which is set when the volume is made. A layout is one of six
  * formats of a volume (see struct famsync_plan). In layouts 1 and 2 the length of a file never
@@ -51,7 +51,7 @@
 #include <stddef.h>
 #include <stdint.h>
 
-/* The version of the library to which this header belongs. */
+/* The version of this header. */
 #define FAMSYNC_VERSION "0.3.0"
 #define FAMSYNC_VERSION_MAJOR 0
 #define FAMSYNC_VERSION_MINOR 3
@@ -65,15 +65,16 @@ enum famsync_code {
     FAMSYNC_OK = 0,
 
     FAMSYNC_ARGUMENT = -1, /* an argument is invalid */
-    FAMSYNC_NOMEMORY = -2, /* the system refused memory */
+    FAMSYNC_NOMEMORY = -2, /* memory couldn't be allocated */
     FAMSYNC_SYSTEM = -3,   /* a system call failed, and errno has the cause; EPROTO means a bug in
                               the library */
     FAMSYNC_INUSE = -6,    /* Another session has the volume open. */
     FAMSYNC_SUSPECT = -7,  /* The volume has the suspect flag: an earlier sync failed. See
                               famsync_msync and the option `trust`. */
     FAMSYNC_FORKED = -11,  /* a forked process used its copy of the handle */
-    FAMSYNC_TORN = -12,    /* plain memory was closed after a failed msync, or a rollback failed
-                              halfway: call famsync_rollback before the next commit */
+    FAMSYNC_TORN = -12,    /* Plain memory was closed after a failed msync (see
+                              famsync_memory_close), or a rollback failed halfway. Call
+                              famsync_rollback before the next commit. */
 
     /* why a volume isn't opened */
     FAMSYNC_NOTREGULAR = -13, /* the path names a folder, a device, a pipe or a socket */
@@ -88,21 +89,21 @@ enum famsync_code {
                                  commit to this volume can have */
 
     /* why an access or a commit is refused */
-    FAMSYNC_NOFRAME = -27, /* the pages that were written, or added to a file, are more than one
-                              commit can have */
+    FAMSYNC_NOFRAME = -27, /* the pages that were written, or added to a file, are too many for
+                              one commit */
     FAMSYNC_DEVICE = -28,  /* a read, a write or a sync of the volume failed; errno has the cause */
     FAMSYNC_BROKEN = -29,  /* a write or a sync failed earlier, so the session is over */
     FAMSYNC_EINVAL = -30,  /* a write past the file's end, or a length that the file can't have */
     FAMSYNC_OVERLAP = -33, /* plain memory of the file is already open */
     FAMSYNC_NOFILE = -34,  /* the volume has no such file */
-    FAMSYNC_BUSY = -35,    /* another backup is being made; or, with FAMSYNC_TRACK_KERNEL, a thread
-                              stored during a commit; or the session has already made 2^32 - 1
-                              commits */
+    FAMSYNC_BUSY = -35,    /* From famsync_backup: another backup is being made. From
+                              famsync_msync: a thread stored during the commit (only with
+                              FAMSYNC_TRACK_KERNEL), or the session has made 2^32 - 1 commits. */
 
     /* suspect flags that can't be made, and sessions that only read */
     FAMSYNC_UNMARKED = -39,     /* a sync failed, and the library couldn't make the suspect flag */
-    FAMSYNC_NEEDSOPENING = -40, /* a crash or a failed sync left work that only a writer can do:
-                                   open the volume for writing once */
+    FAMSYNC_NEEDSOPENING = -40, /* A crash or a failed sync left work for a session that writes.
+                                   Open the volume for writing once. */
     FAMSYNC_READONLY = -41,     /* the session only reads */
 
     /* plain memory */
@@ -120,24 +121,23 @@ typedef struct famsync_memory famsync_memory;
 /* The options of famsync_open. A null pointer as `options` means that all options are 0.
 
    Set `size` to the size of this structure. Later versions of the library add fields at the end.
-   From `size` the library knows which fields the program's structure has. If `size` is 0, the
+   The library learns from `size` which fields the program's structure has. If `size` is 0, the
    library uses only the fields up to and including `readonly`. If the program's structure is larger
-   than the library's own, all bytes after the library's fields must be 0 (otherwise
-   FAMSYNC_ARGUMENT). */
+   than the library's, the additional bytes must be 0 (otherwise FAMSYNC_ARGUMENT). */
 struct famsync_options {
     size_t size;
     int trust;           /* not 0: open a volume that is flagged as suspect, and remove the flag */
     unsigned frames;     /* the most pages that one commit may have; 0 means the limit of the
                             volume */
-    unsigned copies;     /* ignored; without it the fields below would have other offsets */
+    unsigned copies;     /* ignored; it only keeps the offsets of later fields */
     int foreground;      /* not 0: the library starts no thread (see famsync_msync) */
     char *message;       /* a buffer for one line that explains why the volume wasn't opened */
     size_t message_size; /* the buffer's size in bytes; a longer message is cut off */
-    unsigned wait_ms;    /* how long to wait for a volume that is in use, in milliseconds */
+    unsigned wait_ms;    /* how many milliseconds to wait for a volume that is in use */
     int readonly;        /* not 0: the session only reads */
     int resident;        /* not 0: famsync_memory_open reads the whole file instead of mapping it */
-    size_t budget;       /* the number of bytes that committed pages of plain memory and the
-                            library's copies of them may use; 0 means 64 MB */
+    size_t budget;       /* the most bytes for committed pages of plain memory and their copies; 0
+                            means 64 MB; see famsync_memory_open */
     int tracking;        /* FAMSYNC_TRACK_SIGNALS or FAMSYNC_TRACK_KERNEL; see
                             famsync_memory_open */
 };
@@ -162,9 +162,11 @@ struct famsync_new_file {
 struct famsync_plan {
     size_t size;
     unsigned layout; /* 1 to 6; 0 means 4 */
-    /* The number of slots of each journal: 1 to 1,020 in layouts 1 and 2; 2 to 1,020 in layout 3;
-       2 to 65,535 in layout 4. A slot has room for one page. 0 means 1,024 in layout 4, and 1,020
-       in layouts 1 to 3. Layouts 5 and 6 have no journals, so `slots` has to be 0. */
+    /* The number of slots of each journal. A slot has room for one page.
+       Layouts 1 and 2: 1 to 1,020; 0 means 1,020.
+       Layout 3: 2 to 1,020; 0 means 1,020.
+       Layout 4: 2 to 65,535; 0 means 1,024.
+       Layouts 5 and 6 have no journals, so `slots` has to be 0. */
     unsigned slots;
     unsigned files;                      /* the number of files, 1 to 64 */
     const struct famsync_new_file *file; /* the files */
@@ -182,22 +184,21 @@ struct famsync_plan {
 /* Makes a volume in a new file with the path `volume`. The files in the volume contain zeros. When
    the call succeeds, the volume is durable. The volume has the same bytes as a volume that `famsync
    format` makes with the same layout, slots, files, log and key. If the call fails or the process
-   is killed, there is either the whole volume or no new file with this path. If unnamed files
-   (O_TMPFILE) aren't supported or /proc isn't available, the library makes the volume in the file
-   VOLUME.new (VOLUME is this path), and then renames this file. VOLUME.new may remain if the
-   process is killed or the system crashes.
+   is killed, there is either the whole volume or no new file with this path. If the system lacks
+   unnamed files (O_TMPFILE) or /proc, the library makes the volume in the file VOLUME.new (VOLUME
+   is this path). Then the library renames this file to VOLUME. VOLUME.new may remain if the process
+   is killed or the system crashes.
 
    A commit has at most `slots` pages in layouts 1 and 2, and at most `slots` - 1 pages in layouts 3
-   and 4. In layouts 5 and 6 the log must have room for a commit's pages, a list of these pages, one
-   block for the files' lengths, and one free block. So with a log of 16,384 blocks a commit has at
-   most 16,366 pages. In all layouts a commit has at most 65,534 pages. Without `preallocate`, the
-   first write to a block fails if the disk is full. Such a failure ends the session
-   (FAMSYNC_DEVICE).
+   and 4. In layouts 5 and 6 the log must have room for a commit's pages and a list of these pages.
+   The log also needs one block for the files' lengths, and one free block. So with a log of 16,384
+   blocks a commit has at most 16,366 pages. In all layouts a commit has at most 65,534 pages.
+   Without `preallocate`, the first write to a block fails if the disk is full. Such a failure ends
+   the session (FAMSYNC_DEVICE).
 
-   In layouts 5 and 6 a commit writes its pages only to the log. Later the library writes the pages
-   of many commits to their places together. A commit makes two syncs in layout 5, and one in layout
-   6. Layout 6 needs an assumption that layouts 1 to 5 don't need: a commit torn by a crash (written
-   only partly) never matches its digest (checksum).
+   In layouts 5 and 6 the library writes the pages of many commits to their places together. A
+   commit makes two syncs in layout 5, and one in layout 6. Only layout 6 assumes that a commit torn
+   by a crash (written only partly) never matches its digest (checksum).
 
    FAMSYNC_ARGUMENT: the plan is invalid; `message` has the reason. FAMSYNC_SYSTEM with EEXIST:
    VOLUME or VOLUME.new already exists. */
@@ -209,15 +210,15 @@ int famsync_format(const char *volume, const struct famsync_plan *plan);
    to a null pointer.
 
    FAMSYNC_INUSE: another session still has the volume open after `wait_ms` milliseconds.
-   FAMSYNC_SYSTEM with ENAMETOOLONG: the name of the volume's file has more than 247 bytes, so the
-   name of the suspect flag's file (VOLUME.suspect) would be too long.
+   FAMSYNC_SYSTEM with ENAMETOOLONG: the name of the volume's file has more than 247 bytes. Then the
+   suspect flag's name, VOLUME.suspect, would be too long.
 
-   With `readonly` any number of sessions can share a volume. The library opens the file only for
-   reading, and writes nothing. During these sessions no session that writes can begin. With
-   `readonly` the option `trust` has no effect. FAMSYNC_NEEDSOPENING, only with `readonly`: a crash
-   left a commit whose pages aren't yet in their places, or the volume is flagged as suspect. In
-   both cases open the volume for writing once (with `trust` if it is flagged), and close it. In a
-   session with `readonly`, famsync_write, famsync_setlength, famsync_msync, famsync_rollback and
+   With `readonly` the library opens the file only for reading, and writes nothing. Any number of
+   such sessions can share a volume. With `readonly` the option `trust` has no effect.
+   FAMSYNC_NEEDSOPENING, only with `readonly`: a crash left a commit whose pages aren't yet in their
+   places, or the volume is flagged as suspect. In both cases open the volume once without
+   `readonly`, and close it. If the volume is flagged, this opening needs `trust`. In a session with
+   `readonly`, famsync_write, famsync_setlength, famsync_msync, famsync_rollback and
    famsync_memory_touch return FAMSYNC_READONLY. A store to plain memory of such a session raises
    SIGSEGV, which the library doesn't handle. */
 int famsync_open(const char *volume, const struct famsync_options *options, famsync **handle);
@@ -225,15 +226,15 @@ int famsync_open(const char *volume, const struct famsync_options *options, fams
 /* Ends a session and frees the handle. Changes since the last commit are lost. Before the call,
    close all plain memory of the handle (otherwise FAMSYNC_ARGUMENT). No other call with the handle
    may be in progress. The call writes committed pages to their places before the session ends.
-   FAMSYNC_DEVICE: a read failed in this call, or a write or a sync failed in this call or earlier.
-   Even if the call returns FAMSYNC_DEVICE, FAMSYNC_UNMARKED or FAMSYNC_NOMEMORY, the handle is
-   freed, and all acknowledged commits are durable. */
+   FAMSYNC_DEVICE: a read, a write or a sync failed in this call, or a write or a sync failed
+   earlier. Even if the call returns FAMSYNC_DEVICE, FAMSYNC_UNMARKED or FAMSYNC_NOMEMORY, the
+   handle is freed, and all acknowledged commits are durable. */
 int famsync_close(famsync *handle);
 
 /* famsync_files returns the number of files of the volume. Files are numbered from 0.
    famsync_file_name returns the name of a file, or a null pointer if there is no such file.
-   famsync_file_length returns the length that a file has in this session, even if this length isn't
-   committed yet. It returns 0 if there is no such file. */
+   famsync_file_length returns the current length of a file, or 0 if there is no such file. The
+   current length may still wait for a commit. */
 unsigned famsync_files(const famsync *handle);
 const char *famsync_file_name(const famsync *handle, unsigned file);
 uint64_t famsync_file_length(const famsync *handle, unsigned file);
@@ -246,10 +247,10 @@ unsigned famsync_frames(const famsync *handle);
    lost. If the file grows, the added bytes are zeros. Like a write, the new length becomes durable
    with the next famsync_msync. The new length is lost if the session ends before that.
 
-   All pages that are added to a file wait for the next commit, like written pages. If the file
-   ended within a page before it grew, this page waits, too. FAMSYNC_NOFRAME: together with the
-   pages that waited before the call, these pages are too many for one commit. In this case grow the
-   file in steps, with an msync after each step. A call that fails changes nothing.
+   All pages that are added to a file wait for the next commit, like written pages. If the file's
+   old end is within a page, this page waits, too. FAMSYNC_NOFRAME: these pages and the pages that
+   already waited are together too many for one commit. In this case grow the file in steps, with an
+   msync after each step. A call that fails changes nothing.
 
    If plain memory of the file is open, this memory grows or shrinks in place. The program must no
    longer use bytes past the new end. FAMSYNC_SYSTEM: the system refused to change the memory. */
@@ -266,15 +267,16 @@ int famsync_read(famsync *handle, unsigned file, uint64_t offset, void *bytes, s
    `done` may be a null pointer. The written bytes wait in memory for the next famsync_msync. They
    are lost if the session ends before that.
 
-   FAMSYNC_EINVAL: a byte would be past the file's end; famsync_setlength makes a file longer.
-   FAMSYNC_NOFRAME: together with the pages that already wait for a commit, the pages of this write
-   are too many for one commit. In both cases nothing is written. If the call writes only a part of
-   a page, the library first reads the rest of this page. FAMSYNC_DEVICE: this read failed. After
-   FAMSYNC_DEVICE or FAMSYNC_NOMEMORY, `*done` is the number of bytes written before the failure.
+   FAMSYNC_EINVAL: a written byte would be past the file's end; famsync_setlength makes a file
+   longer. FAMSYNC_NOFRAME: the pages of this write and the pages that already wait are together too
+   many for one commit. In both cases nothing is written. If the call writes only a part of a page,
+   the library first reads the rest of this page. If this read fails, the call returns
+   FAMSYNC_DEVICE. After FAMSYNC_DEVICE or FAMSYNC_NOMEMORY, `*done` is the number of bytes written
+   before the failure.
 
    If plain memory of the file is open, famsync_read and famsync_write use this memory. A write is
-   then a store to this memory. Such a write makes its pages writable, as famsync_memory_touch
-   does. */
+   then a store to this memory. Before the store the library makes the pages writable, as
+   famsync_memory_touch does. */
 int famsync_write(famsync *handle, unsigned file, uint64_t offset, const void *bytes, size_t count, size_t *done);
 
 /* Commits all changes of this session: writes, stores to plain memory, and lengths. A commit makes
@@ -283,25 +285,26 @@ int famsync_write(famsync *handle, unsigned file, uint64_t offset, const void *b
    pointer. Threads that call famsync_msync during a commit share the next commit. If the call fails
    and the session continues, all changes wait for the next call.
 
-   FAMSYNC_NOFRAME: famsync_write and stores to plain memory have together changed more pages than
-   one commit can have. Nothing is committed, and no later call can commit all these changes. If you
-   close the plain memory of a file, the stores to this memory are lost. The next call can then
-   commit the other changes, if their pages aren't too many for one commit.
+   FAMSYNC_NOFRAME: the pages of all changes are together too many for one commit. Nothing is
+   committed, and no later call can commit all these changes. If you close the plain memory of a
+   file, the stores to this memory are lost. The next call can then commit the other changes, if
+   their pages aren't too many for one commit.
 
    FAMSYNC_DEVICE: a read, a write or a sync failed, and nothing is acknowledged. If errno is
    ENOMEM, the system refused memory, and the disk didn't fail. After a failed read the session
-   continues, and you may call again. The session is over after a failed write or sync, or if there
-   was no memory to prepare a write or a sync. Then later calls with the handle, except
-   famsync_close, return FAMSYNC_BROKEN.
+   continues, and you may call again. After a failed write or sync the session is over. It is also
+   over if there was no memory to prepare a write or a sync. In both cases later calls with the
+   handle, except famsync_close, return FAMSYNC_BROKEN.
 
-   After a failed sync the library flags the volume as suspect: like the program `famsync`, it makes
-   the file VOLUME.suspect beside the volume's file. FAMSYNC_UNMARKED: a sync failed, and the
-   library couldn't make this flag durable. So the next session might not notice the failed sync.
+   After a failed sync the library flags the volume as suspect, as the program `famsync` does. The
+   suspect flag is the file VOLUME.suspect beside the volume's file. FAMSYNC_UNMARKED: a sync
+   failed, and the library couldn't make this flag durable. So the next session might not notice the
+   failed sync.
 
    After a commit is acknowledged, the library writes the commit's pages to their places. A thread
    of the library does this while no call is in progress, or a later call does it. In layouts 4 to 6
-   the thread begins when 10 ms have passed without a commit. In layouts 5 and 6 it also begins when
-   half of the log is in use. With `foreground` there is no such thread. */
+   the thread begins to write when 10 ms have passed without a commit. In layouts 5 and 6 it also
+   begins when half of the log is in use. With `foreground` there is no such thread. */
 int famsync_msync(famsync *handle, uint64_t *mark);
 
 /* Undoes all changes of this session since the last commit: writes, lengths and stores to plain
@@ -313,12 +316,14 @@ int famsync_msync(famsync *handle, uint64_t *mark);
    waits for a commit, the library also opens the volume a second time. During the call this second
    opening needs as much memory as another session.
 
-   A call that fails undoes nothing, with two exceptions. FAMSYNC_DEVICE or FAMSYNC_UNMARKED: a
-   read, a write or a sync failed. After a failure before the undoing, the session continues or is
-   over by the rules of famsync_msync. After a failure that came after the undoing, all changes are
-   undone, and the session is over. FAMSYNC_SYSTEM: the system refused to change
-   memory. If this refusal came during the undoing, a part of the changes may be undone. Then
-   commits fail with FAMSYNC_TORN until a rollback succeeds. */
+   FAMSYNC_DEVICE or FAMSYNC_UNMARKED: a read, a write or a sync failed. After a failed read the
+   session continues. After a failed write or sync the session is over (see famsync_msync).
+
+   A call that fails undoes nothing, with two exceptions:
+
+   - A write or a sync failed after the undoing. Then all changes are undone.
+   - FAMSYNC_SYSTEM: the system refused to change memory. If it refused during the undoing, a part
+     of the changes may be undone. Then commits fail with FAMSYNC_TORN until a rollback succeeds. */
 int famsync_rollback(famsync *handle);
 
 /* Returns the number of the last acknowledged commit of this session, or 0 if there is none. */
@@ -327,19 +332,19 @@ uint64_t famsync_acknowledged(famsync *handle);
 /* Returns a description of a code. */
 const char *famsync_strerror(int code);
 
-/* Statistics of a session. Set `size` to the size of this structure; with a smaller size
-   famsync_stat returns FAMSYNC_ARGUMENT. Later versions of the library add fields at the end. If a
-   program was built with the header of a later version, famsync_stat sets the added fields to 0.
-   System calls are counted from the beginning of the session, including calls that failed or were
-   interrupted. */
+/* Statistics of a session. Set `size` to the size of this structure. If `size` is smaller,
+   famsync_stat returns FAMSYNC_ARGUMENT. Later versions of the library add fields at the end. An
+   earlier version sets fields that it doesn't know to 0. `reads`, `writes` and `syncs` count system
+   calls since the session began, including failed calls. `syncs` doesn't count interrupted syncs,
+   or the first sync of famsync_open. */
 struct famsync_stat {
     size_t size;
     uint64_t commits;       /* the number of the last acknowledged commit */
     uint64_t frames;        /* the most pages that one commit can have */
-    uint64_t staged;        /* pages that wait for a commit, including those of plain memory */
-    uint64_t unwritten;     /* layouts 1 to 4: blocks of commits that must still be written to their
-                               places, counted in each commit; layouts 5 and 6: blocks of the log
-                               that are in use */
+    uint64_t staged;        /* pages that wait for a commit, including pages of plain memory */
+    uint64_t unwritten;     /* layouts 1 to 4: blocks of commits that aren't completely written to
+                               their places (a block in two of these commits counts twice); layouts
+                               5 and 6: blocks of the log that are in use */
     uint64_t reads;         /* reads of the volume's file */
     uint64_t writes;        /* writes to the volume's file */
     uint64_t syncs;         /* syncs of the volume's file */
@@ -352,20 +357,20 @@ int famsync_stat(famsync *handle, struct famsync_stat *stat);
 
 /* Makes a backup: a volume with the files of the last commit acknowledged before the backup began.
    Opening the backup needs no recovery. The call writes the backup to the file that `descriptor`
-   refers to. This file must be a regular file other than the volume's file. It must be open for
-   reading and writing, without O_APPEND (otherwise FAMSYNC_ARGUMENT). The call first empties this
-   file. Blocks of zeros become holes. When the call succeeds, the backup is synced. If you created
-   the file for the backup, sync its folder, too.
+   refers to. This file must be a regular file other than the volume's file, open for reading and
+   writing, without O_APPEND (otherwise FAMSYNC_ARGUMENT). The call first empties this file. Blocks
+   of zeros become holes. When the call succeeds, the backup is synced. If you created the file for
+   the backup, sync its folder, too.
 
-   Other threads may use the handle during the backup, even for famsync_msync. A handle makes only
-   one backup at a time (otherwise FAMSYNC_BUSY). The library locks the backup's file like a volume
-   until the call returns. FAMSYNC_INUSE: this file is already locked.
+   Other threads may use the handle during the backup, even for famsync_msync. FAMSYNC_BUSY: another
+   backup with this handle is in progress. The library locks the backup's file like a volume until
+   the call returns. FAMSYNC_INUSE: this file is already locked.
 
    FAMSYNC_SYSTEM: the library couldn't write the backup's file. FAMSYNC_DEVICE: the library
-   couldn't read the volume (the session continues), or couldn't write committed pages to their
-   places (the session is over). After a failure one of three things is true: the backup's file is
-   unchanged, it isn't a volume, or it is a whole backup that might not be durable. If the session
-   continues, a failed backup doesn't make any commit fail. */
+   couldn't read the volume, and the session continues. Or the library couldn't write committed
+   pages to their places, and the session is over. After a failure the backup's file is unchanged,
+   or isn't a volume, or is a whole backup that might not be durable. A failed backup makes commits
+   fail only if the failure ends the session. */
 int famsync_backup(famsync *handle, int descriptor);
 
 /*
@@ -375,30 +380,29 @@ int famsync_backup(famsync *handle, int descriptor);
  * notes the store, and makes the page writable. It passes other faults to the handler that was
  * installed earlier.
  *
- * A page that was stored to needs memory of its own, and so does the copy that a commit makes of
- * it. Once the page is committed and written to its place, the library can return the memory of
- * both to the system. The library does this when committed pages and their copies use more than
- * `budget` bytes. In layouts 5 and 6 the pages in the log aren't yet in their places, so they stay
- * in memory. In these layouts committed pages and their copies can exceed the budget by up to twice
- * the log's length.
+ * A commit copies each page that was stored to. Both the page and the copy need memory of their
+ * own. After the committed page is written to its place, the library can return this memory to the
+ * system. The library does this when committed pages and their copies use more than `budget` bytes.
+ * In layouts 5 and 6 the pages in the log aren't yet in their places. So committed pages and their
+ * copies can exceed the budget by up to twice the log's length.
  *
  * As with any mapped file, a load raises SIGBUS if the volume's file can't be read or was
  * truncated. In a forked process, a page that wasn't stored to before the fork may have the bytes
- * of later commits. With `resident` the call reads the whole file instead of mapping it. Then there
- * is no SIGBUS, `budget` has no effect, and a forked process sees no later commit. The call also
- * reads the whole file if the system's pages are larger than 4,096 bytes, or if the system can't
- * map the volume's file.
+ * of later commits. With `resident` the call reads the whole file instead of mapping it. The call
+ * does the same if the system's pages are larger than 4,096 bytes, or if the system can't map the
+ * volume's file. In these three cases there is no SIGBUS, `budget` has no effect, and a forked
+ * process sees no later commit.
  *
  * With FAMSYNC_TRACK_SIGNALS other threads may store during a commit. A commit contains exactly the
  * stores made before one moment within famsync_msync. This moment is the same for all threads, and
  * for all plain memory of the handle. At this moment the library makes all pages read-only again.
  * Then it copies the pages that were stored to. A store during the copying waits until the copying
  * ends, but not for the commit's writes and syncs. If stores of several threads belong together,
- * make them all between two commits.
+ * make them all while no commit is in progress.
  *
  * Some stores don't reach the library's handler:
  *
- * - A store by the kernel raises no signal: read(2) and similar calls fail with EFAULT if they
+ * - A store by the kernel raises no signal. So read(2) and similar calls fail with EFAULT if they
  *   store to a page that isn't writable yet.
  * - If a thread that blocks SIGSEGV stores to such a page, the system kills the process.
  * - If the program later installs another handler of SIGSEGV, the new handler gets the signals of
@@ -408,15 +412,15 @@ int famsync_backup(famsync *handle, int descriptor);
  * another handler has replaced the library's handler, the next famsync_memory_open installs the
  * library's handler again.
  *
- * With FAMSYNC_TRACK_KERNEL there is no handler: the kernel tracks stores, including those of
+ * With FAMSYNC_TRACK_KERNEL there is no handler: the kernel tracks stores, including stores by
  * read(2) and similar calls. Each commit asks the kernel which pages were stored to. Other threads
  * must not store during famsync_msync, famsync_rollback and famsync_setlength. If another thread
  * stores while a commit copies pages, the commit repeats the copying. After four attempts
  * famsync_msync returns FAMSYNC_BUSY, and nothing is committed. When a commit ends, it may return
  * the memory of committed pages to the system (see `budget`). If another thread stores to these
  * pages at that time, the store may be lost. FAMSYNC_TRACKING, from famsync_open or
- * famsync_memory_open: the system can't track stores (Linux can from 6.7 on). FAMSYNC_ARGUMENT,
- * from famsync_open: the options have both FAMSYNC_TRACK_KERNEL and `resident`.
+ * famsync_memory_open: the system can't track stores. Tracking needs Linux 6.7 or later.
+ * FAMSYNC_ARGUMENT, from famsync_open: the options have both FAMSYNC_TRACK_KERNEL and `resident`.
  *
  * If the file ends within its last page, stores to the rest of this page are never committed. The
  * addresses after the last page, up to the file's capacity, are reserved: the program must not use
@@ -426,9 +430,9 @@ int famsync_memory_open(famsync *handle, const char *file, famsync_memory **memo
 
 /* Opens plain memory at a given address, so that the file can contain pointers into itself. A null
    pointer means any address. The memory occupies the addresses for the file's whole capacity, the
-   page before them, and the page after them. FAMSYNC_ADDRESS has four possible reasons: the address
-   isn't a multiple of the page size; the occupied addresses begin below 65,536; they end above the
-   highest address; they contain other memory. */
+   page before them, and the page after them. FAMSYNC_ADDRESS: the address isn't a multiple of the
+   page size. Or the occupied addresses begin below 65,536, end above the highest possible address,
+   or contain other memory. */
 int famsync_memory_open_at(famsync *handle, const char *file, void *address, famsync_memory **memory);
 
 /* famsync_memory_at returns the address of the memory. This address never changes.
@@ -448,8 +452,8 @@ size_t famsync_memory_dirty(const famsync_memory *memory);
 int famsync_memory_touch(famsync_memory *memory, size_t offset, size_t count);
 
 /* Closes the memory. After the call begins, no thread may use the memory. Stores to the memory
-   since the last commit are lost. If a failed famsync_msync has already prepared some of these
-   stores for its commit, later commits fail with FAMSYNC_TORN until a rollback succeeds. */
+   since the last commit are lost. If a failed famsync_msync has put some of these stores into its
+   commit, later commits fail with FAMSYNC_TORN until a rollback succeeds. */
 int famsync_memory_close(famsync_memory *memory);
 
 #ifdef __cplusplus
