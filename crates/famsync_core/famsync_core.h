@@ -1,13 +1,14 @@
 /*
- * famsync_core (the core) is a library for programs that use volumes. The library is proved
- * (docs/CLAIMS.md lists the claims), and makes no system call.
+ * famsync_core (the core) is a library for programs that use volumes. A volume is a disk file that
+ * contains files. docs/CLAIMS.md lists what is proved about the library. The library makes no
+ * system call.
  *
- * A volume is a disk file that contains files. The program that uses the core is its host. The host
- * reads blocks of the volume, and supplies them to the core. The core keeps in memory the pages
- * that wait for a commit. To make a commit durable, the core records calls for the host to make. A
- * recorded call is a write or a sync of the volume's file. The host makes these calls in order, and
- * then reports them to the core as made. A recorded call waits until the host has reported it. The
- * host decides how to make a call. The core decides which bytes are written, and where.
+ * The program that uses the core is called the host. The host reads blocks of the volume, and
+ * supplies them to the core. Written pages wait in the core's memory for the next commit. To make a
+ * commit durable, the core records calls for the host to make: writes and syncs of the volume's
+ * file. The host makes these calls in order, and then reports to the core that it made them. A
+ * recorded call is waiting until the host has reported it. The host decides how to make a call. The
+ * core decides which bytes are written, and where.
  *
  * The program below writes the first page of the first file, and commits. `tests/lint/core_header`
  * compiles and runs the program.
@@ -64,25 +65,24 @@
  *   }
  *
  * A session with a volume begins with famsync_core_begin, and ends with famsync_core_close. The
- * session has a handle of type famsync_core, called `core` here. Each function except
- * famsync_core_begin takes `core` by value. The last argument of each function except
- * famsync_core_close is `&core.at`: the function sets `core.at` for the next function call. No
- * function checks its handle. Pass the handle with the `at` that the previous function call set.
- * This handle must not be null or closed. Only one function at a time may use a handle. A pointer
- * argument followed by `count` must point to `count` bytes. If `count` is 0, the pointer may be any
- * pointer except null. The bytes that famsync_core_call returns are valid until a function other
- * than famsync_core_call is called with the same handle.
+ * session has a handle of type famsync_core, called `core` in this header. Each function except
+ * famsync_core_begin takes `core` by value. Each function except famsync_core_close has `&core.at`
+ * as its last argument, and sets `core.at` for the next function call. No function checks its
+ * handle. Pass the handle with the `core.at` that the previous function call set. `core.at` must
+ * not be null. Don't use a handle after famsync_core_close. Only one function at a time may use a
+ * handle. A pointer argument followed by `count` must point to `count` bytes. If `count` is 0, the
+ * pointer may be any pointer except null. The bytes that famsync_core_call returns are valid until
+ * a different function is called with the same handle.
  *
- * The core requests memory through three functions that the host defines: rattle_alloc,
+ * The core allocates and frees memory through three functions that the host defines: rattle_alloc,
  * rattle_realloc and rattle_dealloc (below).
  *
  * A block is 4,096 bytes of the volume's file. A block is known if the core has its bytes. The home
- * block of a page is the page's place in the volume's file. A page is home once it is written to
- * its home block. A commit is home once all its pages are home.
+ * block of a page is the page's place in the volume's file. To write a page home means to write it
+ * to its home block. A commit is home once all its pages are written home.
  *
- * A function of type int64_t returns a number that is 0 or more, or one of the negative codes.
- * The comment of each function lists the codes that the function can return, without the prefix
- * FAMSYNC_CORE_.
+ * A result of type int64_t is a number (0 or more), or one of the negative codes. The comment of
+ * each function lists its possible codes without the prefix FAMSYNC_CORE_.
  */
 #ifndef FAMSYNC_CORE_H
 #define FAMSYNC_CORE_H
@@ -102,25 +102,25 @@ typedef struct {
 
 enum famsync_core_code {
     FAMSYNC_CORE_OK = 0,
-    FAMSYNC_CORE_WANTED = 1, /* The call lacks the block `*wanted`. Supply it, and call again. */
+    FAMSYNC_CORE_WANTED = 1, /* The function needs the block `*wanted`. Supply the block, and call
+                                the function again. */
     FAMSYNC_CORE_NONE = 2,   /* From famsync_core_call: no call with this index waits. From
                                 famsync_core_write_out: no step remains. From famsync_core_log: the
                                 volume has no log. From famsync_core_forget: the block is kept. */
 
     FAMSYNC_CORE_ARGUMENT = -1, /* an argument is invalid */
-    FAMSYNC_CORE_NOMEMORY = -2, /* memory was refused */
+    FAMSYNC_CORE_NOMEMORY = -2, /* out of memory */
     FAMSYNC_CORE_ORDER = -3,    /* the volume isn't open yet, or is already open */
 
     /* why a volume isn't opened */
     FAMSYNC_CORE_NOTAVOLUME = -11, /* block 0 doesn't begin with the magic of a layout
                                       (docs/FORMATS.md) */
     FAMSYNC_CORE_DAMAGED = -12,    /* block 0 begins with the magic of a layout, but the volume
-                                      breaks the format */
+                                      breaks a rule of the format */
 
-    /* why a request is refused; the same numbers as in famsync.h */
-    FAMSYNC_CORE_NOFRAME = -27, /* more pages were written, or added to a file, than one commit can
-                                   have */
-    FAMSYNC_CORE_DEVICE = -28,  /* memory was refused, so a call couldn't be recorded */
+    /* why a request is refused; famsync.h uses the same numbers */
+    FAMSYNC_CORE_NOFRAME = -27, /* the next commit would have too many pages */
+    FAMSYNC_CORE_DEVICE = -28,  /* out of memory, so a call couldn't be recorded */
     FAMSYNC_CORE_BROKEN = -29,  /* DEVICE was returned earlier: close the session, and open the
                                    volume again */
     FAMSYNC_CORE_EINVAL = -30,  /* the page begins at or past the file's end, or the new length is
@@ -128,21 +128,22 @@ enum famsync_core_code {
     FAMSYNC_CORE_NOFILE = -34,  /* the volume has no such file */
     FAMSYNC_CORE_BUSY = -35,    /* the session has made 2^32 - 1 commits, or the log has no unused
                                    epoch or commit number (docs/FORMATS.md) */
-    FAMSYNC_CORE_OTHER = -38    /* any other refusal; no function of this header returns it */
+    FAMSYNC_CORE_OTHER = -38    /* other refusals; no function of this header returns this code */
 };
 
 /* The kinds of recorded calls. */
 enum famsync_core_kind { FAMSYNC_CORE_CALL_WRITE = 1, FAMSYNC_CORE_CALL_SYNC = 2 };
 
-/* Begins a session with a volume of `blocks` blocks. This number is the length of the volume's file
-   divided by 4,096, rounded down. If the function fails, `*at` is unchanged.
+/* Begins a session with a volume. `blocks` is the length of the volume's file divided by 4,096,
+   rounded down. If the function fails, `*at` is unchanged.
 
-   Codes: OK, ARGUMENT (0 blocks), NOMEMORY. */
+   Codes: OK, ARGUMENT (`blocks` is 0), NOMEMORY. */
 int32_t famsync_core_begin(uint32_t blocks, uint8_t **at);
 
-/* Supplies a block that the host has read. `bytes` are the block's 4,096 bytes as they are in the
-   volume's file after all recorded calls that the host has made. If the block is already known,
-   nothing changes. You may call this function at any time, also before the volume is open.
+/* Supplies a block that the host has read. `bytes` are the block's current 4,096 bytes in the
+   volume's file. They must include each recorded write that the host has made. If the block is
+   already known, nothing changes. You may call this function at any time, also before the volume is
+   open.
 
    Codes: OK, ARGUMENT (no such block, or `count` isn't 4,096), NOMEMORY. */
 int32_t famsync_core_supply(famsync_core core, uint32_t block, const uint8_t *bytes, size_t count, uint8_t **at);
@@ -151,19 +152,19 @@ int32_t famsync_core_supply(famsync_core core, uint32_t block, const uint8_t *by
    before the volume is open. */
 int32_t famsync_core_is_known(famsync_core core, uint32_t block, uint8_t **at);
 
-/* Opens the volume, which may have any layout. From then on a commit has at most `pages` pages. If
-   `pages` is 0, or more than the volume's journals or log allow, only the journals or the log limit
-   a commit. A successful opening always records calls. If a crash left commits that aren't home,
-   some of the recorded calls write these commits home.
+/* Opens the volume, which may have any layout. `pages` is the greatest number of pages of a commit;
+   0 means no limit. The volume's journals or log also limit this number. A successful opening
+   always records calls. If commits aren't home, for example after a crash, some of these calls
+   write these commits home.
 
-   Codes: OK, WANTED, NOTAVOLUME, DAMAGED, NOMEMORY or DEVICE (after either, close the handle, and
-   begin again), BUSY (the log has no unused epoch), ORDER.
+   Codes: OK, WANTED, NOTAVOLUME, DAMAGED, NOMEMORY, DEVICE, BUSY (the log has no unused epoch),
+   ORDER. After NOMEMORY or DEVICE, close the session, and begin a new one.
 
-   WANTED: a block isn't known. After this code the volume isn't open yet, and no call was recorded.
-   Opening wants block 0 first, and then these blocks (docs/FORMATS.md), one at a time, not always
-   in this order:
+   WANTED: the function needs a block that isn't known. The volume isn't open yet, and no call was
+   recorded. The function needs block 0 first. Then it needs these blocks (docs/FORMATS.md), one at
+   a time, not always in this order:
 
-   - from layout 3 on, the block of the lengths;
+   - from layout 3 on, the lengths block;
    - in a volume with journals, the gates and the open journals;
    - in a volume with a log, the selector, the selected start, the log's commits, and blocks after
      these commits. */
@@ -177,95 +178,100 @@ int64_t famsync_core_files(famsync_core core, uint8_t **at);
 int64_t famsync_core_frames(famsync_core core, uint8_t **at);
 int64_t famsync_core_head(famsync_core core, uint8_t **at);
 
-/* Returns 1 if the syncs of a commit also serve to write earlier commits home, and 0 otherwise. The
-   answer is 1 in layout 4, and in volumes with a log. Codes: ORDER. */
+/* Writing a commit home needs syncs. Returns 1 if the syncs of later commits also serve this
+   purpose, and 0 otherwise. The result is 1 in layout 4, and in volumes with a log. Codes:
+   ORDER. */
 int32_t famsync_core_shares_syncs(famsync_core core, uint8_t **at);
 
-/* Sets `*length` to the length of a file in bytes, even if this length still waits for the next
-   commit. Sets `*pages` to the greatest number of pages that the file can have. Codes: OK, ARGUMENT
-   (no such file), ORDER. */
+/* Sets `*length` to the current length of a file in bytes. This length may still wait for a commit.
+   Sets `*pages` to the greatest number of pages that the file can have. Codes: OK, ARGUMENT (no
+   such file), ORDER. */
 int32_t famsync_core_file(famsync_core core, uint32_t file, uint64_t *length, uint64_t *pages, uint8_t **at);
 
-/* Copies the name of a file to `name`, which has room for `count` bytes. A name has 1 to 32 bytes
-   from '!' to '~'. No null byte is added. Returns the length of the name. Codes: ARGUMENT (no such
-   file, or not enough room), ORDER. */
+/* Copies the name of a file to `name`. A name has 1 to 32 bytes, each from '!' to '~'. No null byte
+   is added. Returns the length of the name. Codes: ARGUMENT (no such file, or the name has more
+   than `count` bytes), ORDER. */
 int64_t famsync_core_file_name(famsync_core core, uint32_t file, uint8_t *name, size_t count, uint8_t **at);
 
-/* Reads a page of a file: 4,096 bytes, with zeros past the file's end. Pages are numbered from 0.
+/* Reads a page (4,096 bytes) of a file into `bytes`. The page's bytes past the file's end are 0.
+   Pages are numbered from 0.
 
    Codes: OK, WANTED, ARGUMENT (`count` isn't 4,096), NOFILE, EINVAL, ORDER. */
 int32_t famsync_core_read(famsync_core core, uint32_t file, uint64_t page, uint8_t *bytes, size_t count,
                           uint32_t *wanted, uint8_t **at);
 
-/* Writes a whole page of a file. The page waits in memory for the next commit. Bytes past the
-   file's end become zeros. If the function fails, nothing changes.
+/* Writes a whole page of a file. The page waits in memory for the next commit. The page's bytes
+   past the file's end become 0. If the function fails, nothing changes.
 
    Codes: OK, ARGUMENT (`count` isn't 4,096), NOFILE, EINVAL, BROKEN, NOFRAME, NOMEMORY, ORDER. */
 int32_t famsync_core_write(famsync_core core, uint32_t file, uint64_t page, const uint8_t *bytes, size_t count,
                            uint8_t **at);
 
 /* famsync_core_staged returns the number of pages that wait for the next commit.
-   famsync_core_is_staged returns 1 if the given page is one of them, and 0 otherwise. Codes:
-   ORDER. */
+   famsync_core_is_staged returns 1 if the given page waits, and 0 otherwise. Codes: ORDER. */
 int64_t famsync_core_staged(famsync_core core, uint8_t **at);
 int32_t famsync_core_is_staged(famsync_core core, uint32_t file, uint64_t page, uint8_t **at);
 
-/* Makes a commit of all waiting pages and lengths. Records the calls that make this commit durable,
-   and may also record calls that write earlier commits home. If no page or length waits, the commit
-   needs no calls of its own. Sets `*mark` to the commit's number, counted from 1 in each session.
-   The commit is durable once famsync_core_acknowledged returns this number or a higher one.
+/* Commits all waiting pages and lengths. Records the calls that make this commit durable. May also
+   record calls that write earlier commits home. If no page or length waits, no call is recorded for
+   this commit. Sets `*mark` to the commit's number. Each session numbers its commits from 1. The
+   commit is durable once famsync_core_acknowledged returns this number or a higher number.
 
    Codes: OK, WANTED, NOMEMORY (call this function again), BROKEN, DEVICE, BUSY, ORDER.
 
    WANTED and NOMEMORY are returned only for volumes with a log. If the log has no room for the
-   commit, the function first makes steps that write older commits home. A step or the commit may
-   need a block that isn't known. If the function returns WANTED or NOMEMORY, it undoes no step, and
-   the pages still wait for the commit. */
+   commit, the function first writes older commits home, step by step. A step or the commit may need
+   a block that isn't known. After WANTED or NOMEMORY, the finished steps are kept, and the pages
+   and lengths still wait. */
 int32_t famsync_core_commit(famsync_core core, uint32_t *mark, uint32_t *wanted, uint8_t **at);
 
-/* Returns the number of the last acknowledged commit, or 0 if there is none. A commit is
-   acknowledged, and durable, once the host has reported all recorded calls that waited when
-   famsync_core_commit returned. Calls that were recorded later may still wait. If a second commit
-   is made before the first one is acknowledged, the first one is acknowledged only together with
-   the second one. Codes: ORDER. */
+/* Returns the number of the last acknowledged commit, or 0 if no commit is acknowledged. A commit
+   is acknowledged once the host has reported all calls that waited when famsync_core_commit
+   returned. Calls recorded later may still wait. An acknowledged commit is durable. If a second
+   commit is made before the first commit is acknowledged, the first commit is acknowledged only
+   together with the second commit. Codes: ORDER. */
 int64_t famsync_core_acknowledged(famsync_core core, uint8_t **at);
 
-/* Makes at most `most` steps, which write the pages of earlier commits home. Records the calls of
-   these steps.
+/* Writes earlier commits home in steps. Makes at most `most` of these steps, and records their
+   calls.
 
    Codes: OK (steps remain), NONE (no step remains), WANTED, NOMEMORY (call this function again),
    BROKEN, DEVICE, ORDER.
 
-   WANTED and NOMEMORY are returned only for volumes with a log. If the function returns either
-   code, it undoes no step. */
+   WANTED and NOMEMORY are returned only for volumes with a log. After WANTED or NOMEMORY, the
+   finished steps are kept. */
 int32_t famsync_core_write_out(famsync_core core, uint32_t most, uint32_t *wanted, uint8_t **at);
 
-/* Returns the number of blocks that commits must still write home, counted in each commit. For a
-   volume with a log, the function returns the number of log blocks in use instead (`*used` of
-   famsync_core_log). Codes: ORDER. */
+/* Returns the number of blocks in the commits that need further steps of famsync_core_write_out. A
+   block in two of these commits counts twice. For a volume with a log, returns `*used` of
+   famsync_core_log instead. Codes: ORDER. */
 int64_t famsync_core_unwritten(famsync_core core, uint8_t **at);
 
-/* For a volume with a log, sets `*blocks` to the number of blocks of the log, and `*used` to the
-   number of its blocks in use. Sets `*commits` to the number of commits in the blocks in use. A
-   commit's blocks stay in use until the start of the log moves past the commit. Codes: OK, NONE
-   (the volume has journals, and nothing is set), ORDER. */
+/* For a volume with a log, sets three numbers:
+
+   - `*blocks`: the number of blocks of the log;
+   - `*used`: the number of log blocks in use;
+   - `*commits`: the number of commits in the blocks in use.
+
+   A commit's blocks are in use until the start of the log (docs/FORMATS.md) moves past the commit.
+   Codes: OK, NONE (the volume has journals, and nothing is set), ORDER. */
 int32_t famsync_core_log(famsync_core core, uint64_t *blocks, uint64_t *used, uint64_t *commits, uint8_t **at);
 
-/* Sets the length of a file in bytes. The length can't be more than the file's capacity
-   (docs/FORMATS.md). The length becomes durable with the next commit. If the file grows, the added
-   pages wait for the next commit, like written pages. If the file ended within a page before it
-   grew, this page waits, too. If the function fails, nothing changes.
+/* Sets the length of a file in bytes. The length is at most the file's capacity (docs/FORMATS.md).
+   The length becomes durable with the next commit. If the file grows, the added pages wait for the
+   next commit, like written pages. If the file's end was within a page before the growth, this page
+   waits, too. If the function fails, nothing changes.
 
-   Codes: OK, WANTED (the page in which the file ended isn't known), NOFILE, EINVAL (also if the
+   Codes: OK, WANTED (the block with the file's old end isn't known), NOFILE, EINVAL (also if the
    volume has layout 1 or 2), BROKEN, NOFRAME, NOMEMORY, ORDER. */
 int32_t famsync_core_set_length(famsync_core core, uint32_t file, uint64_t length, uint32_t *wanted, uint8_t **at);
 
-/* Returns the number of waiting calls: recorded calls that the host hasn't reported as made. You
-   may call this function at any time, also before the volume is open. */
+/* Returns the number of waiting calls. You may call this function at any time, also before the
+   volume is open. */
 int64_t famsync_core_waiting(famsync_core core, uint8_t **at);
 
-/* Returns a waiting call. The oldest call has index 0. The host makes the calls in the order of
-   their indexes. Sets `*kind` to one of two values:
+/* Describes the waiting call that has index `index`. The oldest waiting call has index 0. The host
+   makes the calls in the order of their indexes. Sets `*kind` to one of two values:
 
    - FAMSYNC_CORE_CALL_WRITE: write the `*length` bytes at `*bytes` to the volume's file, at offset
      `*offset`.
@@ -277,27 +283,27 @@ int32_t famsync_core_call(famsync_core core, uint32_t index, uint32_t *kind, uin
                           uint64_t *length, uint8_t **at);
 
 /* Reports that the host has made the `count` oldest waiting calls, in order and successfully.
-   Codes: OK, ARGUMENT (fewer than `count` calls wait, and nothing changes). You may call this
-   function at any time, also before the volume is open. */
+   Codes: OK, ARGUMENT (fewer than `count` calls wait; nothing changes). You may call this function
+   at any time, also before the volume is open. */
 int32_t famsync_core_carried_out(famsync_core core, uint32_t count, uint8_t **at);
 
-/* Forgets a block, so that it isn't known any more. A later function call that needs this block
-   returns WANTED. A block is kept if a waiting recorded call writes to it. Once the volume is open,
-   the blocks before the files are also kept, except the blocks of a log. Codes: OK, NONE (the block
-   is kept), ARGUMENT (no such block). You may call this function at any time, also before the
-   volume is open. */
+/* Forgets a block: the block isn't known any more. A later function call that needs this block
+   returns WANTED. A block is kept if a waiting call writes to this block. Once the volume is open,
+   the blocks before the first file are also kept, except log blocks. Codes: OK, NONE (the block is
+   kept), ARGUMENT (no such block). You may call this function at any time, also before the volume
+   is open. */
 int32_t famsync_core_forget(famsync_core core, uint32_t block, uint8_t **at);
 
 /* Frees the session, and drops its waiting calls. You may call this function at any time, also
-   before the volume is open, but only once for each handle. */
+   before the volume is open. Call it only once for each handle. */
 void famsync_core_close(famsync_core core);
 
-/* The host defines these three functions with malloc, realloc and free of one allocator.
+/* The host defines these three functions. They call malloc, realloc and free of the same allocator.
    rattle_alloc and rattle_realloc return `ok` and `p`. If the allocator returns memory, `ok` is
    true, and `p` points to this memory. Otherwise `ok` is false, and `p` points to any byte of the
-   program, because `p` must never be null. `align` is at most 16. rattle_realloc keeps the first
-   `kept` bytes of the memory at `old`. If rattle_realloc fails, the memory at `old` stays
-   unchanged. If `size` is 0, request at least one byte from the allocator. */
+   program. `p` must never be null. `align` is the required alignment, at most 16. rattle_realloc
+   keeps the first `kept` bytes of the memory at `old`. If rattle_realloc fails, this memory doesn't
+   change. If `size` is 0, request at least one byte from the allocator. */
 struct rattle_tried {
     bool ok;
     uint8_t *p;
