@@ -1,7 +1,7 @@
 /*
- * libfamsync: a library for the files of a volume. A volume is one disk file (the volume's file)
- * that contains up to 64 files. A commit makes all changes to these files durable, or none. The
- * library runs in the caller's process.
+ * libfamsync: a library for files whose changes become durable together. A volume is one disk file
+ * (the volume's file) that contains up to 64 files. A commit makes all changes to these files
+ * durable, or none. The library runs in the caller's process.
  *
  * famsync_format and the command `famsync format` make volumes. famsync_open opens and locks a
  * volume's file, and begins a session with the volume. The call sets `*handle` to the session's
@@ -18,10 +18,9 @@
  * One session may use both ways, even for the same file.
  *
  * famsync_msync commits all changes of a session. The commit is acknowledged when the call returns
- * FAMSYNC_OK. If this process is killed or the system crashes, the next session finds the files as
- * one commit left them. The files have the changes of this commit and of all earlier commits, and
- * no later changes. This commit is the last acknowledged commit, or a later commit that wasn't
- * acknowledged.
+ * FAMSYNC_OK. If this process is killed or the system crashes, the next session finds all changes
+ * up to a commit C, and no later changes. C is the last acknowledged commit, or a later commit that
+ * wasn't acknowledged.
  *
  * A page is 4,096 bytes of a file. A block is 4,096 bytes of the volume's file. Each page has a
  * block of its own, called the page's place. The volume's file also contains journals or a log. A
@@ -37,9 +36,9 @@
  * famsync_open. In the forked process, calls that return a code fail with FAMSYNC_FORKED if they
  * use the copied handle or its plain memory. Two calls return FAMSYNC_OK instead: famsync_close
  * does nothing, and famsync_memory_close frees the copied memory. The copied handle uses memory
- * until the forked process ends or calls exec. The forked process doesn't keep the volume locked. A
- * child of vfork shares the memory of its parent. Stores of the child to plain memory count as
- * stores of the parent. The child must not call the library.
+ * until the forked process ends or calls exec. Only the process that called famsync_open keeps the
+ * volume locked. A child of vfork shares the memory of its parent. Stores of the child to plain
+ * memory count as stores of the parent. The child must not call the library.
  *
  * A file can't grow past its capacity, which is set when the volume is made. A layout is one of six
  * formats of a volume (see struct famsync_plan). In layouts 1 and 2 the length of a file never
@@ -69,8 +68,8 @@ enum famsync_code {
     FAMSYNC_SYSTEM = -3,   /* a system call failed, and errno has the cause; EPROTO means a bug in
                               the library */
     FAMSYNC_INUSE = -6,    /* Another session has the volume open. */
-    FAMSYNC_SUSPECT = -7,  /* The volume has the suspect flag: an earlier sync failed. See
-                              famsync_msync and the option `trust`. */
+    FAMSYNC_SUSPECT = -7,  /* An earlier sync failed, so the volume is flagged as suspect
+                              (see famsync_msync and the option `trust`). */
     FAMSYNC_FORKED = -11,  /* a forked process used its copy of the handle */
     FAMSYNC_TORN = -12,    /* Plain memory was closed after a failed msync (see
                               famsync_memory_close), or a rollback failed halfway. Call
@@ -80,8 +79,8 @@ enum famsync_code {
     FAMSYNC_NOTREGULAR = -13, /* the path names a folder, a device, a pipe or a socket */
     FAMSYNC_NAMES = -14,      /* The file has several names (hard links). Another process could use
                                  it under another name. */
-    FAMSYNC_REPLACED = -15,   /* Other programs replaced the file again and again while the library
-                                 locked it. */
+    FAMSYNC_REPLACED = -15,   /* Other programs replaced the file while the library was opening
+                                 it. */
     FAMSYNC_NOTAVOLUME = -16, /* the file doesn't begin like a volume */
     FAMSYNC_DAMAGED = -17,    /* the file begins like a volume, but its bytes or its length break
                                  the rules of the format */
@@ -97,13 +96,14 @@ enum famsync_code {
     FAMSYNC_OVERLAP = -33, /* plain memory of the file is already open */
     FAMSYNC_NOFILE = -34,  /* the volume has no such file */
     FAMSYNC_BUSY = -35,    /* From famsync_backup: another backup is being made. From
-                              famsync_msync: a thread stored during the commit (only with
-                              FAMSYNC_TRACK_KERNEL), or the session has made 2^32 - 1 commits. */
+                              famsync_msync: a thread stored to plain memory during the commit
+                              (only with FAMSYNC_TRACK_KERNEL), or the session has made 2^32 - 1
+                              commits. */
 
-    /* suspect flags that can't be made, and sessions that only read */
+    /* the suspect flag (see famsync_msync), and sessions that only read */
     FAMSYNC_UNMARKED = -39,     /* a sync failed, and the library couldn't make the suspect flag */
-    FAMSYNC_NEEDSOPENING = -40, /* A crash or a failed sync left work for a session that writes.
-                                   Open the volume for writing once. */
+    FAMSYNC_NEEDSOPENING = -40, /* There was a crash or a failed sync. First open the volume once
+                                   without `readonly` (see famsync_open). */
     FAMSYNC_READONLY = -41,     /* the session only reads */
 
     /* plain memory */
@@ -126,7 +126,8 @@ typedef struct famsync_memory famsync_memory;
    than the library's, the additional bytes must be 0 (otherwise FAMSYNC_ARGUMENT). */
 struct famsync_options {
     size_t size;
-    int trust;           /* not 0: open a volume that is flagged as suspect, and remove the flag */
+    int trust;           /* not 0: open the volume even if it is flagged as suspect, and remove
+                            the flag */
     unsigned frames;     /* the most pages that one commit may have; 0 means the limit of the
                             volume */
     unsigned copies;     /* ignored; it only keeps the offsets of later fields */
@@ -136,8 +137,8 @@ struct famsync_options {
     unsigned wait_ms;    /* how many milliseconds to wait for a volume that is in use */
     int readonly;        /* not 0: the session only reads */
     int resident;        /* not 0: famsync_memory_open reads the whole file instead of mapping it */
-    size_t budget;       /* the most bytes for committed pages of plain memory and their copies; 0
-                            means 64 MB; see famsync_memory_open */
+    size_t budget;       /* the most memory, in bytes, for committed pages and copies of them (see
+                            famsync_memory_open); 0 means 64 MB */
     int tracking;        /* FAMSYNC_TRACK_SIGNALS or FAMSYNC_TRACK_KERNEL; see
                             famsync_memory_open */
 };
@@ -170,35 +171,35 @@ struct famsync_plan {
     unsigned slots;
     unsigned files;                      /* the number of files, 1 to 64 */
     const struct famsync_new_file *file; /* the files */
-    int preallocate;                     /* not 0: allocate all disk blocks now; 0: allocate a block
-                                            when it is first written */
+    int preallocate;                     /* not 0: allocate all blocks of the volume now; 0:
+                                            allocate each block at its first write */
     char *message;                       /* a buffer for one line that explains why the volume
                                             wasn't made */
     size_t message_size;                 /* the buffer's size in bytes; a longer line is cut off */
     unsigned log;                        /* layouts 5 and 6: the number of blocks of the log, 4 to
                                             2^24; 0 means 16,384 (64 MB) */
-    uint64_t key;                        /* layout 6: the key of the digests (see famsync_format); 0
+    uint64_t key;                        /* layout 6: the key of the commits' digests (checksums); 0
                                             means a random key */
 };
 
-/* Makes a volume in a new file with the path `volume`. The files in the volume contain zeros. When
-   the call succeeds, the volume is durable. The volume has the same bytes as a volume that `famsync
-   format` makes with the same layout, slots, files, log and key. If the call fails or the process
-   is killed, there is either the whole volume or no new file with this path. If the system lacks
-   unnamed files (O_TMPFILE) or /proc, the library makes the volume in the file VOLUME.new (VOLUME
-   is this path). Then the library renames this file to VOLUME. VOLUME.new may remain if the process
-   is killed or the system crashes.
+/* Makes a volume in a new file with the path `volume` (below: VOLUME). The files in the volume
+   contain zeros. When the call succeeds, the volume is durable. The volume has the same bytes as a
+   volume that `famsync format` makes with the same layout, slots, files, log and key. If the call
+   fails or the process is killed, there is either the whole volume or no new file with this path.
+   If the system lacks unnamed files (O_TMPFILE) or /proc, the library makes the volume in
+   VOLUME.new. Afterwards the library renames VOLUME.new to VOLUME. VOLUME.new may remain if the
+   process is killed or the system crashes.
 
    A commit has at most `slots` pages in layouts 1 and 2, and at most `slots` - 1 pages in layouts 3
    and 4. In layouts 5 and 6 the log must have room for a commit's pages and a list of these pages.
    The log also needs one block for the files' lengths, and one free block. So with a log of 16,384
    blocks a commit has at most 16,366 pages. In all layouts a commit has at most 65,534 pages.
-   Without `preallocate`, the first write to a block fails if the disk is full. Such a failure ends
-   the session (FAMSYNC_DEVICE).
+   Without `preallocate`, the library's first write to a block fails if the disk is full. Such a
+   failure ends the session (FAMSYNC_DEVICE).
 
-   In layouts 5 and 6 the library writes the pages of many commits to their places together. A
-   commit makes two syncs in layout 5, and one in layout 6. Only layout 6 assumes that a commit torn
-   by a crash (written only partly) never matches its digest (checksum).
+   In layouts 5 and 6 the library writes the pages of many commits to their places in one pass. A
+   commit makes two syncs in layout 5, and one in layout 6. Only layout 6 assumes that a partly
+   written commit never matches its digest (checksum).
 
    FAMSYNC_ARGUMENT: the plan is invalid; `message` has the reason. FAMSYNC_SYSTEM with EEXIST:
    VOLUME or VOLUME.new already exists. */
@@ -210,31 +211,31 @@ int famsync_format(const char *volume, const struct famsync_plan *plan);
    to a null pointer.
 
    FAMSYNC_INUSE: another session still has the volume open after `wait_ms` milliseconds.
-   FAMSYNC_SYSTEM with ENAMETOOLONG: the name of the volume's file has more than 247 bytes. Then the
-   suspect flag's name, VOLUME.suspect, would be too long.
+   FAMSYNC_SYSTEM with ENAMETOOLONG: the name of the volume's file has more than 247 bytes. The
+   name of the suspect flag, the file VOLUME.suspect, would be too long.
 
    With `readonly` the library opens the file only for reading, and writes nothing. Any number of
    such sessions can share a volume. With `readonly` the option `trust` has no effect.
-   FAMSYNC_NEEDSOPENING, only with `readonly`: a crash left a commit whose pages aren't yet in their
-   places, or the volume is flagged as suspect. In both cases open the volume once without
-   `readonly`, and close it. If the volume is flagged, this opening needs `trust`. In a session with
-   `readonly`, famsync_write, famsync_setlength, famsync_msync, famsync_rollback and
-   famsync_memory_touch return FAMSYNC_READONLY. A store to plain memory of such a session raises
-   SIGSEGV, which the library doesn't handle. */
+   FAMSYNC_NEEDSOPENING, only with `readonly`: some committed pages aren't in their places yet, or
+   the volume is flagged as suspect. In both cases open the volume once without `readonly`, and
+   close it. If the volume is flagged, this opening needs `trust`. In a session with `readonly`,
+   famsync_write, famsync_setlength, famsync_msync, famsync_rollback and famsync_memory_touch return
+   FAMSYNC_READONLY. A store to plain memory of such a session raises SIGSEGV, which the library
+   doesn't handle. */
 int famsync_open(const char *volume, const struct famsync_options *options, famsync **handle);
 
 /* Ends a session and frees the handle. Changes since the last commit are lost. Before the call,
    close all plain memory of the handle (otherwise FAMSYNC_ARGUMENT). No other call with the handle
    may be in progress. The call writes committed pages to their places before the session ends.
-   FAMSYNC_DEVICE: a read, a write or a sync failed in this call, or a write or a sync failed
-   earlier. Even if the call returns FAMSYNC_DEVICE, FAMSYNC_UNMARKED or FAMSYNC_NOMEMORY, the
-   handle is freed, and all acknowledged commits are durable. */
+   FAMSYNC_DEVICE: a write or a sync failed during the session, or a read failed during this call.
+   Even if the call returns FAMSYNC_DEVICE, FAMSYNC_UNMARKED or FAMSYNC_NOMEMORY, the handle is
+   freed, and all acknowledged commits are durable. */
 int famsync_close(famsync *handle);
 
 /* famsync_files returns the number of files of the volume. Files are numbered from 0.
    famsync_file_name returns the name of a file, or a null pointer if there is no such file.
    famsync_file_length returns the current length of a file, or 0 if there is no such file. The
-   current length may still wait for a commit. */
+   current length may still be uncommitted. */
 unsigned famsync_files(const famsync *handle);
 const char *famsync_file_name(const famsync *handle, unsigned file);
 uint64_t famsync_file_length(const famsync *handle, unsigned file);
@@ -253,7 +254,7 @@ unsigned famsync_frames(const famsync *handle);
    msync after each step. A call that fails changes nothing.
 
    If plain memory of the file is open, this memory grows or shrinks in place. The program must no
-   longer use bytes past the new end. FAMSYNC_SYSTEM: the system refused to change the memory. */
+   longer use bytes past the new end. FAMSYNC_SYSTEM: the system refused to resize the memory. */
 int famsync_setlength(famsync *handle, const char *file, uint64_t length);
 
 /* Reads `count` bytes of a file from `offset` on. The bytes include changes of this session that

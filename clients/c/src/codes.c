@@ -9,32 +9,32 @@ static const struct {
     int code;
     const char *text;
 } CODES[] = {
-    {FAMSYNC_OK, "all went well"},
-    {FAMSYNC_ARGUMENT, "an argument isn't one that this call takes"},
-    {FAMSYNC_NOMEMORY, "this process was refused memory"},
-    {FAMSYNC_SYSTEM, "a call of the system failed"},
+    {FAMSYNC_OK, "success"},
+    {FAMSYNC_ARGUMENT, "an argument is invalid"},
+    {FAMSYNC_NOMEMORY, "memory couldn't be allocated"},
+    {FAMSYNC_SYSTEM, "a system call failed"},
     {FAMSYNC_INUSE, "the volume is open already"},
-    {FAMSYNC_SUSPECT, "a sync of the volume failed once, and it isn't trusted"},
-    {FAMSYNC_FORKED, "the session is of the process from which this one was forked"},
-    {FAMSYNC_TORN, "a part of what belongs together was stored or undone, and a rollback has to come first"},
-    {FAMSYNC_NOTREGULAR, "a volume is a regular file, and this is none"},
-    {FAMSYNC_NAMES, "the volume's file has several names"},
-    {FAMSYNC_REPLACED, "the volume's file is replaced again and again"},
-    {FAMSYNC_NOTAVOLUME, "the file is no volume"},
+    {FAMSYNC_SUSPECT, "the volume is flagged as suspect: an earlier sync failed"},
+    {FAMSYNC_FORKED, "the session belongs to the parent process"},
+    {FAMSYNC_TORN, "only part of the changes was prepared or undone: roll back before the next commit"},
+    {FAMSYNC_NOTREGULAR, "the volume isn't a regular file"},
+    {FAMSYNC_NAMES, "the volume's file has several names (hard links)"},
+    {FAMSYNC_REPLACED, "the volume's file was replaced while it was being opened"},
+    {FAMSYNC_NOTAVOLUME, "the file isn't a volume"},
     {FAMSYNC_DAMAGED, "the volume is damaged"},
-    {FAMSYNC_SHAPE, "a commit to this volume can't have so many pages"},
-    {FAMSYNC_NOFRAME, "more pages were written, or added to a file, than one commit can have"},
-    {FAMSYNC_DEVICE, "a read, a write or a sync of the volume failed, or was refused memory"},
-    {FAMSYNC_BROKEN, "a write or a sync of the volume failed earlier, and the session is over"},
-    {FAMSYNC_EINVAL, "the bytes or the length are outside the range that the file has"},
-    {FAMSYNC_OVERLAP, "plain memory of the file is open already"},
+    {FAMSYNC_SHAPE, "the option `frames` is too large for this volume"},
+    {FAMSYNC_NOFRAME, "too many pages for one commit were written, or added to a file"},
+    {FAMSYNC_DEVICE, "a read, a write or a sync of the volume failed, or memory for it couldn't be allocated"},
+    {FAMSYNC_BROKEN, "a write or a sync of the volume failed earlier, so the session is over"},
+    {FAMSYNC_EINVAL, "the bytes or the length are outside the file's range"},
+    {FAMSYNC_OVERLAP, "plain memory of the file is already open"},
     {FAMSYNC_NOFILE, "the volume has no such file"},
-    {FAMSYNC_BUSY, "a backup is being made, a thread stored during a commit, or no number is left for a commit"},
+    {FAMSYNC_BUSY, "a backup is being made, a thread stored during the commit, or no number is left for a commit"},
     {FAMSYNC_UNMARKED, "a sync of the volume failed, and its suspect flag couldn't be made"},
-    {FAMSYNC_NEEDSOPENING, "a crash or a failed sync left work for a writer: open the volume once for writing"},
+    {FAMSYNC_NEEDSOPENING, "a crash or a failed sync left work: open the volume for writing once"},
     {FAMSYNC_READONLY, "the session only reads"},
-    {FAMSYNC_ADDRESS, "there can't be plain memory at this address"},
-    {FAMSYNC_TRACKING, "the system can't track stores to plain memory in this way"},
+    {FAMSYNC_ADDRESS, "plain memory can't be at this address"},
+    {FAMSYNC_TRACKING, "the system can't track stores to plain memory in the requested way"},
 };
 
 const char *famsync_strerror(int code)
@@ -42,7 +42,7 @@ const char *famsync_strerror(int code)
     for (size_t i = 0; i < sizeof CODES / sizeof CODES[0]; i++)
         if (CODES[i].code == code)
             return CODES[i].text;
-    return "no such code";
+    return "unknown code";
 }
 
 int code_of(int64_t core_code)

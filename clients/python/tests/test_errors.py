@@ -47,7 +47,7 @@ class Classes(unittest.TestCase):
                 _errors.check(code)
             self.assertIsInstance(caught.exception, famsync.Error)
             self.assertEqual(caught.exception.code, code)
-            self.assertNotIn("no such code", str(caught.exception))
+            self.assertNotIn("unknown code", str(caught.exception))
             self.assertIs(getattr(famsync, kind.__name__), kind)
             self.assertIn(kind.__name__, famsync.__all__)
 

@@ -14,7 +14,7 @@ use volumes::make_volume;
 #[track_caller]
 fn code<T>(answer: Result<T, Error>) -> Code {
     let error = answer.err().expect("the call is to be refused");
-    assert!(!error.to_string().is_empty() && error.to_string() != "no such code", "{error:?}");
+    assert!(!error.to_string().is_empty() && error.to_string() != "unknown code", "{error:?}");
     error.code()
 }
 
