@@ -286,13 +286,13 @@ int famsync_write(famsync *handle, unsigned file, uint64_t offset, const void *b
    pointer. Threads that call famsync_msync during a commit share the next commit. If the call fails
    and the session continues, all changes wait for the next call.
 
-   FAMSYNC_NOFRAME: the pages of all changes are together too many for one commit. Nothing is
-   committed, and no later call can commit all these changes. If you close the plain memory of a
-   file, the stores to this memory are lost. The next call can then commit the other changes, if
-   their pages aren't too many for one commit.
+   FAMSYNC_NOFRAME: the pages of all changes are together too many for one commit, and nothing is
+   committed. Later commits fail, too, until you discard some changes. To discard the stores to
+   plain memory, close this memory. If the remaining changes fit into one commit, the next call can
+   commit them.
 
    FAMSYNC_DEVICE: a read, a write or a sync failed, and nothing is acknowledged. If errno is
-   ENOMEM, the system refused memory, and the disk didn't fail. After a failed read the session
+   ENOMEM, memory couldn't be allocated, and the disk didn't fail. After a failed read the session
    continues, and you may call again. After a failed write or sync the session is over. It is also
    over if there was no memory to prepare a write or a sync. In both cases later calls with the
    handle, except famsync_close, return FAMSYNC_BROKEN.
@@ -323,7 +323,7 @@ int famsync_msync(famsync *handle, uint64_t *mark);
    A call that fails undoes nothing, with two exceptions:
 
    - A write or a sync failed after the undoing. Then all changes are undone.
-   - FAMSYNC_SYSTEM: the system refused to change memory. If it refused during the undoing, a part
+   - FAMSYNC_SYSTEM: a system call on plain memory failed. If it failed during the undoing, a part
      of the changes may be undone. Then commits fail with FAMSYNC_TORN until a rollback succeeds. */
 int famsync_rollback(famsync *handle);
 
@@ -333,35 +333,35 @@ uint64_t famsync_acknowledged(famsync *handle);
 /* Returns a description of a code. */
 const char *famsync_strerror(int code);
 
-/* Statistics of a session. Set `size` to the size of this structure. If `size` is smaller,
-   famsync_stat returns FAMSYNC_ARGUMENT. Later versions of the library add fields at the end. An
-   earlier version sets fields that it doesn't know to 0. `reads`, `writes` and `syncs` count system
-   calls since the session began, including failed calls. `syncs` doesn't count interrupted syncs,
-   or the first sync of famsync_open. */
+/* Statistics of a session. Set `size` to the size of this structure. FAMSYNC_ARGUMENT: `size` is
+   too small for the field `memory`. Later versions of the library add fields after `memory`.
+   Earlier versions set the added fields to 0. `reads`, `writes` and `syncs` count system calls
+   since the session began, including failed calls. `syncs` doesn't count interrupted syncs, or the
+   first sync of famsync_open. */
 struct famsync_stat {
     size_t size;
     uint64_t commits;       /* the number of the last acknowledged commit */
     uint64_t frames;        /* the most pages that one commit can have */
     uint64_t staged;        /* pages that wait for a commit, including pages of plain memory */
-    uint64_t unwritten;     /* layouts 1 to 4: blocks of commits that aren't completely written to
-                               their places (a block in two of these commits counts twice); layouts
-                               5 and 6: blocks of the log that are in use */
+    uint64_t unwritten;     /* layouts 1 to 4: blocks of each commit whose pages aren't completely
+                               written to their places (a block in two such commits counts twice);
+                               layouts 5 and 6: blocks of the log in use */
     uint64_t reads;         /* reads of the volume's file */
     uint64_t writes;        /* writes to the volume's file */
     uint64_t syncs;         /* syncs of the volume's file */
     uint64_t bytes_written; /* bytes written to the volume's file */
-    uint64_t memory;        /* bytes of memory that all sessions of this process use for pages and
-                               commits, without plain memory */
+    uint64_t memory;        /* bytes of memory (not plain memory) that all sessions of this process
+                               use for pages and commits */
 };
 
 int famsync_stat(famsync *handle, struct famsync_stat *stat);
 
-/* Makes a backup: a volume with the files of the last commit acknowledged before the backup began.
-   Opening the backup needs no recovery. The call writes the backup to the file that `descriptor`
-   refers to. This file must be a regular file other than the volume's file, open for reading and
-   writing, without O_APPEND (otherwise FAMSYNC_ARGUMENT). The call first empties this file. Blocks
-   of zeros become holes. When the call succeeds, the backup is synced. If you created the file for
-   the backup, sync its folder, too.
+/* Makes a backup: a volume with all changes up to the last commit acknowledged before the backup
+   began. Opening the backup needs no recovery. The call empties the file that `descriptor` refers
+   to, and writes the backup to this file. FAMSYNC_ARGUMENT: this file isn't a regular file, or is
+   the volume's file. `descriptor` must be open for reading and writing, without O_APPEND (otherwise
+   FAMSYNC_ARGUMENT, too). Blocks of zeros become holes. When the call succeeds, the backup is
+   synced. If you created the file for the backup, sync its folder, too.
 
    Other threads may use the handle during the backup, even for famsync_msync. FAMSYNC_BUSY: another
    backup with this handle is in progress. The library locks the backup's file like a volume until
@@ -370,8 +370,8 @@ int famsync_stat(famsync *handle, struct famsync_stat *stat);
    FAMSYNC_SYSTEM: the library couldn't write the backup's file. FAMSYNC_DEVICE: the library
    couldn't read the volume, and the session continues. Or the library couldn't write committed
    pages to their places, and the session is over. After a failure the backup's file is unchanged,
-   or isn't a volume, or is a whole backup that might not be durable. A failed backup makes commits
-   fail only if the failure ends the session. */
+   or isn't a volume, or is a whole backup that might not be durable. If the session continues, a
+   failed backup doesn't affect commits. */
 int famsync_backup(famsync *handle, int descriptor);
 
 /*
@@ -398,8 +398,8 @@ int famsync_backup(famsync *handle, int descriptor);
  * stores made before one moment within famsync_msync. This moment is the same for all threads, and
  * for all plain memory of the handle. At this moment the library makes all pages read-only again.
  * Then it copies the pages that were stored to. A store during the copying waits until the copying
- * ends, but not for the commit's writes and syncs. If stores of several threads belong together,
- * make them all while no commit is in progress.
+ * ends, but not for the commit's writes and syncs. If stores of several threads must be committed
+ * together, make them all while no commit is in progress.
  *
  * Some stores don't reach the library's handler:
  *
@@ -420,8 +420,9 @@ int famsync_backup(famsync *handle, int descriptor);
  * famsync_msync returns FAMSYNC_BUSY, and nothing is committed. When a commit ends, it may return
  * the memory of committed pages to the system (see `budget`). If another thread stores to these
  * pages at that time, the store may be lost. FAMSYNC_TRACKING, from famsync_open or
- * famsync_memory_open: the system can't track stores. Tracking needs Linux 6.7 or later.
- * FAMSYNC_ARGUMENT, from famsync_open: the options have both FAMSYNC_TRACK_KERNEL and `resident`.
+ * famsync_memory_open: the system can't track stores. FAMSYNC_TRACK_KERNEL needs Linux 6.7 or
+ * later. FAMSYNC_ARGUMENT, from famsync_open: the options have both FAMSYNC_TRACK_KERNEL and
+ * `resident`.
  *
  * If the file ends within its last page, stores to the rest of this page are never committed. The
  * addresses after the last page, up to the file's capacity, are reserved: the program must not use
@@ -453,7 +454,7 @@ size_t famsync_memory_dirty(const famsync_memory *memory);
 int famsync_memory_touch(famsync_memory *memory, size_t offset, size_t count);
 
 /* Closes the memory. After the call begins, no thread may use the memory. Stores to the memory
-   since the last commit are lost. If a failed famsync_msync has put some of these stores into its
+   since the last commit are lost. If famsync_msync failed after adding some of these stores to a
    commit, later commits fail with FAMSYNC_TORN until a rollback succeeds. */
 int famsync_memory_close(famsync_memory *memory);
 

@@ -1,14 +1,13 @@
 /*
- * famsync_core (the core) is a library for programs that use volumes. A volume is a disk file that
- * contains files. docs/CLAIMS.md lists what is proved about the library. The library makes no
- * system call.
+ * famsync_core (the core) is a library for programs that use volumes: disk files that contain
+ * files. docs/CLAIMS.md lists what is proved about the library. The library makes no system call.
  *
  * The program that uses the core is called the host. The host reads blocks of the volume, and
- * supplies them to the core. Written pages wait in the core's memory for the next commit. To make a
- * commit durable, the core records calls for the host to make: writes and syncs of the volume's
- * file. The host makes these calls in order, and then reports to the core that it made them. A
- * recorded call is waiting until the host has reported it. The host decides how to make a call. The
- * core decides which bytes are written, and where.
+ * supplies them to the core. Pages from famsync_core_write wait in the core's memory for the next
+ * commit. To make a commit durable, the core records calls for the host to make: writes and syncs
+ * of the volume's file. The host makes these calls in order, and then reports to the core that it
+ * made them. A waiting call is a recorded call that the host hasn't reported yet. The host decides
+ * how to make a call. The core decides which bytes are written, and where.
  *
  * The program below writes the first page of the first file, and commits. `tests/lint/core_header`
  * compiles and runs the program.
@@ -65,21 +64,21 @@
  *   }
  *
  * A session with a volume begins with famsync_core_begin, and ends with famsync_core_close. The
- * session has a handle of type famsync_core, called `core` in this header. Each function except
+ * session's handle, `core` in this header, has type famsync_core. Each function except
  * famsync_core_begin takes `core` by value. Each function except famsync_core_close has `&core.at`
  * as its last argument, and sets `core.at` for the next function call. No function checks its
- * handle. Pass the handle with the `core.at` that the previous function call set. `core.at` must
- * not be null. Don't use a handle after famsync_core_close. Only one function at a time may use a
- * handle. A pointer argument followed by `count` must point to `count` bytes. If `count` is 0, the
- * pointer may be any pointer except null. The bytes that famsync_core_call returns are valid until
- * a different function is called with the same handle.
+ * handle. `core.at` must have the value that the previous function call set. Don't use a handle
+ * before famsync_core_begin succeeds, or after famsync_core_close. Only one function at a time may
+ * use a handle. A pointer argument followed by `count` must point to `count` bytes. If `count` is
+ * 0, the pointer may be any pointer except null. The bytes that famsync_core_call returns are valid
+ * until a different function is called with the same handle.
  *
  * The core allocates and frees memory through three functions that the host defines: rattle_alloc,
  * rattle_realloc and rattle_dealloc (below).
  *
- * A block is 4,096 bytes of the volume's file. A block is known if the core has its bytes. The home
- * block of a page is the page's place in the volume's file. To write a page home means to write it
- * to its home block. A commit is home once all its pages are written home.
+ * A block is 4,096 bytes of the volume's file. A block is known if its bytes are in the core's
+ * memory. The home block of a page is the page's place in the volume's file. To write a page home
+ * means to write it to its home block. A commit is home once all its pages are written home.
  *
  * A result of type int64_t is a number (0 or more), or one of the negative codes. The comment of
  * each function lists its possible codes without the prefix FAMSYNC_CORE_.
@@ -105,12 +104,13 @@ enum famsync_core_code {
     FAMSYNC_CORE_WANTED = 1, /* The function needs the block `*wanted`. Supply the block, and call
                                 the function again. */
     FAMSYNC_CORE_NONE = 2,   /* From famsync_core_call: no call with this index waits. From
-                                famsync_core_write_out: no step remains. From famsync_core_log: the
+                                famsync_core_write_out: no work remains. From famsync_core_log: the
                                 volume has no log. From famsync_core_forget: the block is kept. */
 
     FAMSYNC_CORE_ARGUMENT = -1, /* an argument is invalid */
     FAMSYNC_CORE_NOMEMORY = -2, /* out of memory */
-    FAMSYNC_CORE_ORDER = -3,    /* the volume isn't open yet, or is already open */
+    FAMSYNC_CORE_ORDER = -3,    /* the volume isn't open yet; from famsync_core_open: it is already
+                                   open */
 
     /* why a volume isn't opened */
     FAMSYNC_CORE_NOTAVOLUME = -11, /* block 0 doesn't begin with the magic of a layout
@@ -118,7 +118,7 @@ enum famsync_core_code {
     FAMSYNC_CORE_DAMAGED = -12,    /* block 0 begins with the magic of a layout, but the volume
                                       breaks a rule of the format */
 
-    /* why a request is refused; famsync.h uses the same numbers */
+    /* why a function fails; famsync.h uses the same numbers, except for OTHER */
     FAMSYNC_CORE_NOFRAME = -27, /* the next commit would have too many pages */
     FAMSYNC_CORE_DEVICE = -28,  /* out of memory, so a call couldn't be recorded */
     FAMSYNC_CORE_BROKEN = -29,  /* DEVICE was returned earlier: close the session, and open the
@@ -126,9 +126,9 @@ enum famsync_core_code {
     FAMSYNC_CORE_EINVAL = -30,  /* the page begins at or past the file's end, or the new length is
                                    above the file's capacity */
     FAMSYNC_CORE_NOFILE = -34,  /* the volume has no such file */
-    FAMSYNC_CORE_BUSY = -35,    /* the session has made 2^32 - 1 commits, or the log has no unused
-                                   epoch or commit number (docs/FORMATS.md) */
-    FAMSYNC_CORE_OTHER = -38    /* other refusals; no function of this header returns this code */
+    FAMSYNC_CORE_BUSY = -35,    /* the session has made 2^32 - 1 commits, or the log's epochs or
+                                   commit numbers are used up (docs/FORMATS.md) */
+    FAMSYNC_CORE_OTHER = -38    /* other failures; no function of this header returns this code */
 };
 
 /* The kinds of recorded calls. */
@@ -141,9 +141,8 @@ enum famsync_core_kind { FAMSYNC_CORE_CALL_WRITE = 1, FAMSYNC_CORE_CALL_SYNC = 2
 int32_t famsync_core_begin(uint32_t blocks, uint8_t **at);
 
 /* Supplies a block that the host has read. `bytes` are the block's current 4,096 bytes in the
-   volume's file. They must include each recorded write that the host has made. If the block is
-   already known, nothing changes. You may call this function at any time, also before the volume is
-   open.
+   volume's file, after all recorded writes that the host has made. If the block is already known,
+   nothing changes. You may call this function at any time, also before the volume is open.
 
    Codes: OK, ARGUMENT (no such block, or `count` isn't 4,096), NOMEMORY. */
 int32_t famsync_core_supply(famsync_core core, uint32_t block, const uint8_t *bytes, size_t count, uint8_t **at);
@@ -152,22 +151,22 @@ int32_t famsync_core_supply(famsync_core core, uint32_t block, const uint8_t *by
    before the volume is open. */
 int32_t famsync_core_is_known(famsync_core core, uint32_t block, uint8_t **at);
 
-/* Opens the volume, which may have any layout. `pages` is the greatest number of pages of a commit;
-   0 means no limit. The volume's journals or log also limit this number. A successful opening
-   always records calls. If commits aren't home, for example after a crash, some of these calls
-   write these commits home.
+/* Opens the volume, which may have any layout. `pages` limits the number of pages of a commit; 0
+   sets no limit. The volume's journals or log also limit this number. A successful opening always
+   records calls. If commits aren't home, for example after a crash, some of these calls write these
+   commits home.
 
-   Codes: OK, WANTED, NOTAVOLUME, DAMAGED, NOMEMORY, DEVICE, BUSY (the log has no unused epoch),
+   Codes: OK, WANTED, NOTAVOLUME, DAMAGED, NOMEMORY, DEVICE, BUSY (the log's epochs are used up),
    ORDER. After NOMEMORY or DEVICE, close the session, and begin a new one.
 
    WANTED: the function needs a block that isn't known. The volume isn't open yet, and no call was
-   recorded. The function needs block 0 first. Then it needs these blocks (docs/FORMATS.md), one at
-   a time, not always in this order:
+   recorded. The function needs block 0 first. Then it may need these blocks (docs/FORMATS.md), one
+   at a time, not always in this order:
 
-   - from layout 3 on, the lengths block;
-   - in a volume with journals, the gates and the open journals;
-   - in a volume with a log, the selector, the selected start, the log's commits, and blocks after
-     these commits. */
+   - layouts 1 to 4: the gates and the open journals;
+   - layouts 5 and 6: the selector, the selected start, the log's commits, and blocks after these
+     commits;
+   - layouts 3 to 6: the lengths block. */
 int32_t famsync_core_open(famsync_core core, uint32_t pages, uint32_t *wanted, uint8_t **at);
 
 /* famsync_core_files returns the number of files of the volume. Files are numbered from 0.
@@ -183,7 +182,7 @@ int64_t famsync_core_head(famsync_core core, uint8_t **at);
    ORDER. */
 int32_t famsync_core_shares_syncs(famsync_core core, uint8_t **at);
 
-/* Sets `*length` to the current length of a file in bytes. This length may still wait for a commit.
+/* Sets `*length` to a file's current length in bytes, even if this length still waits for a commit.
    Sets `*pages` to the greatest number of pages that the file can have. Codes: OK, ARGUMENT (no
    such file), ORDER. */
 int32_t famsync_core_file(famsync_core core, uint32_t file, uint64_t *length, uint64_t *pages, uint8_t **at);
@@ -220,31 +219,30 @@ int32_t famsync_core_is_staged(famsync_core core, uint32_t file, uint64_t page, 
    Codes: OK, WANTED, NOMEMORY (call this function again), BROKEN, DEVICE, BUSY, ORDER.
 
    WANTED and NOMEMORY are returned only for volumes with a log. If the log has no room for the
-   commit, the function first writes older commits home, step by step. A step or the commit may need
-   a block that isn't known. After WANTED or NOMEMORY, the finished steps are kept, and the pages
-   and lengths still wait. */
+   commit, the function first records calls that write older commits home, in steps. A step or the
+   commit may need a block that isn't known. After WANTED or NOMEMORY, no finished step is undone,
+   and the pages and lengths still wait. */
 int32_t famsync_core_commit(famsync_core core, uint32_t *mark, uint32_t *wanted, uint8_t **at);
 
 /* Returns the number of the last acknowledged commit, or 0 if no commit is acknowledged. A commit
    is acknowledged once the host has reported all calls that waited when famsync_core_commit
-   returned. Calls recorded later may still wait. An acknowledged commit is durable. If a second
-   commit is made before the first commit is acknowledged, the first commit is acknowledged only
-   together with the second commit. Codes: ORDER. */
+   returned OK for this commit. Calls recorded later may still wait. An acknowledged commit is
+   durable. If commit n + 1 is made before commit n is acknowledged, both commits are acknowledged
+   together. Codes: ORDER. */
 int64_t famsync_core_acknowledged(famsync_core core, uint8_t **at);
 
-/* Writes earlier commits home in steps. Makes at most `most` of these steps, and records their
-   calls.
+/* Records calls that write earlier commits home. Makes at most `most` steps of this work.
 
    Codes: OK (steps remain), NONE (no step remains), WANTED, NOMEMORY (call this function again),
    BROKEN, DEVICE, ORDER.
 
-   WANTED and NOMEMORY are returned only for volumes with a log. After WANTED or NOMEMORY, the
-   finished steps are kept. */
+   WANTED and NOMEMORY are returned only for volumes with a log. After WANTED or NOMEMORY, no
+   finished step is undone. */
 int32_t famsync_core_write_out(famsync_core core, uint32_t most, uint32_t *wanted, uint8_t **at);
 
-/* Returns the number of blocks in the commits that need further steps of famsync_core_write_out. A
-   block in two of these commits counts twice. For a volume with a log, returns `*used` of
-   famsync_core_log instead. Codes: ORDER. */
+/* Some commits may need further steps of famsync_core_write_out. Returns the number of all blocks
+   in these commits. A block in two of these commits counts twice. For a volume with a log, returns
+   `*used` of famsync_core_log instead. Codes: ORDER. */
 int64_t famsync_core_unwritten(famsync_core core, uint8_t **at);
 
 /* For a volume with a log, sets three numbers:
@@ -253,14 +251,14 @@ int64_t famsync_core_unwritten(famsync_core core, uint8_t **at);
    - `*used`: the number of log blocks in use;
    - `*commits`: the number of commits in the blocks in use.
 
-   A commit's blocks are in use until the start of the log (docs/FORMATS.md) moves past the commit.
-   Codes: OK, NONE (the volume has journals, and nothing is set), ORDER. */
+   A commit's log blocks are in use until the start of the log (docs/FORMATS.md) moves past the
+   commit. Codes: OK, NONE (the volume has journals, and nothing is set), ORDER. */
 int32_t famsync_core_log(famsync_core core, uint64_t *blocks, uint64_t *used, uint64_t *commits, uint8_t **at);
 
-/* Sets the length of a file in bytes. The length is at most the file's capacity (docs/FORMATS.md).
+/* Sets the length of a file in bytes. The greatest length is the file's capacity (docs/FORMATS.md).
    The length becomes durable with the next commit. If the file grows, the added pages wait for the
-   next commit, like written pages. If the file's end was within a page before the growth, this page
-   waits, too. If the function fails, nothing changes.
+   next commit, like written pages. If the growth begins inside a page, this page waits, too. If the
+   function fails, nothing changes.
 
    Codes: OK, WANTED (the block with the file's old end isn't known), NOFILE, EINVAL (also if the
    volume has layout 1 or 2), BROKEN, NOFRAME, NOMEMORY, ORDER. */
@@ -289,16 +287,16 @@ int32_t famsync_core_carried_out(famsync_core core, uint32_t count, uint8_t **at
 
 /* Forgets a block: the block isn't known any more. A later function call that needs this block
    returns WANTED. A block is kept if a waiting call writes to this block. Once the volume is open,
-   the blocks before the first file are also kept, except log blocks. Codes: OK, NONE (the block is
-   kept), ARGUMENT (no such block). You may call this function at any time, also before the volume
-   is open. */
+   all non-log blocks before the first file are also kept. Codes: OK, NONE (the block is kept),
+   ARGUMENT (no such block). You may call this function at any time, also before the volume is
+   open. */
 int32_t famsync_core_forget(famsync_core core, uint32_t block, uint8_t **at);
 
 /* Frees the session, and drops its waiting calls. You may call this function at any time, also
    before the volume is open. Call it only once for each handle. */
 void famsync_core_close(famsync_core core);
 
-/* The host defines these three functions. They call malloc, realloc and free of the same allocator.
+/* The host defines these three functions. They call malloc, realloc and free of one allocator.
    rattle_alloc and rattle_realloc return `ok` and `p`. If the allocator returns memory, `ok` is
    true, and `p` points to this memory. Otherwise `ok` is false, and `p` points to any byte of the
    program. `p` must never be null. `align` is the required alignment, at most 16. rattle_realloc
