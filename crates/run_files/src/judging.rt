@@ -38,7 +38,8 @@ pub trait Judge: Drop {
 }
 
 /// Judges the files that the program's arguments name. Prints a line for each file, and a sum. Returns the exit status:
-/// 0; 1 if a file differs or is refused; 2 if no file is named; 3 if printing fails or memory runs out.
+/// 0; 1 if a file differs or is refused; 2 if no file is named; 3 if printing fails, or if memory runs out before the
+/// first file.
 pub fn judge_files<J: Judge>(rt: &HostRuntime, program: &str) -> ExitCode {
     match judge_words::<J>(rt) {
         Ok(status) => ExitCode::from(status),
