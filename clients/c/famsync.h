@@ -102,12 +102,12 @@ enum famsync_code {
 
     /* the suspect flag (see famsync_msync), and sessions that only read */
     FAMSYNC_UNMARKED = -39,     /* a sync failed, and the library couldn't make the suspect flag */
-    FAMSYNC_NEEDSOPENING = -40, /* There was a crash or a failed sync. First open the volume once
-                                   without `readonly` (see famsync_open). */
+    FAMSYNC_NEEDSOPENING = -40, /* with `readonly`: the volume must first be opened once without
+                                   `readonly` (see famsync_open) */
     FAMSYNC_READONLY = -41,     /* the session only reads */
 
     /* plain memory */
-    FAMSYNC_ADDRESS = -42, /* plain memory can't be at this address */
+    FAMSYNC_ADDRESS = -42, /* plain memory can't be at the given address */
     FAMSYNC_TRACKING = -44 /* the system can't track stores in the requested way */
 };
 
@@ -137,8 +137,8 @@ struct famsync_options {
     unsigned wait_ms;    /* how many milliseconds to wait for a volume that is in use */
     int readonly;        /* not 0: the session only reads */
     int resident;        /* not 0: famsync_memory_open reads the whole file instead of mapping it */
-    size_t budget;       /* the most memory, in bytes, for committed pages and copies of them (see
-                            famsync_memory_open); 0 means 64 MB */
+    size_t budget;       /* how much memory, in bytes, committed pages of plain memory and their
+                            copies may use (see famsync_memory_open); 0 means 64 MB */
     int tracking;        /* FAMSYNC_TRACK_SIGNALS or FAMSYNC_TRACK_KERNEL; see
                             famsync_memory_open */
 };
@@ -185,16 +185,16 @@ struct famsync_plan {
 /* Makes a volume in a new file with the path `volume` (below: VOLUME). The files in the volume
    contain zeros. When the call succeeds, the volume is durable. The volume has the same bytes as a
    volume that `famsync format` makes with the same layout, slots, files, log and key. If the call
-   fails or the process is killed, there is either the whole volume or no new file with this path.
-   If the system lacks unnamed files (O_TMPFILE) or /proc, the library makes the volume in
-   VOLUME.new. Afterwards the library renames VOLUME.new to VOLUME. VOLUME.new may remain if the
-   process is killed or the system crashes.
+   fails or the process is killed, the new file VOLUME is either complete or doesn't exist. If the
+   system lacks unnamed files (O_TMPFILE) or /proc, the library makes the volume in VOLUME.new.
+   Afterwards the library renames VOLUME.new to VOLUME. VOLUME.new may remain if the process is
+   killed or the system crashes.
 
    A commit has at most `slots` pages in layouts 1 and 2, and at most `slots` - 1 pages in layouts 3
    and 4. In layouts 5 and 6 the log must have room for a commit's pages and a list of these pages.
    The log also needs one block for the files' lengths, and one free block. So with a log of 16,384
    blocks a commit has at most 16,366 pages. In all layouts a commit has at most 65,534 pages.
-   Without `preallocate`, the library's first write to a block fails if the disk is full. Such a
+   Without `preallocate`, a full disk makes the library's first write to a block fail. Such a
    failure ends the session (FAMSYNC_DEVICE).
 
    In layouts 5 and 6 the library writes the pages of many commits to their places in one pass. A
@@ -211,7 +211,7 @@ int famsync_format(const char *volume, const struct famsync_plan *plan);
    to a null pointer.
 
    FAMSYNC_INUSE: another session still has the volume open after `wait_ms` milliseconds.
-   FAMSYNC_SYSTEM with ENAMETOOLONG: the name of the volume's file has more than 247 bytes. The
+   FAMSYNC_SYSTEM with ENAMETOOLONG: the name of the volume's file has more than 247 bytes. So the
    name of the suspect flag, the file VOLUME.suspect, would be too long.
 
    With `readonly` the library opens the file only for reading, and writes nothing. Any number of
@@ -294,8 +294,8 @@ int famsync_write(famsync *handle, unsigned file, uint64_t offset, const void *b
    FAMSYNC_DEVICE: a read, a write or a sync failed, and nothing is acknowledged. If errno is
    ENOMEM, memory couldn't be allocated, and the disk didn't fail. After a failed read the session
    continues, and you may call again. After a failed write or sync the session is over. It is also
-   over if there was no memory to prepare a write or a sync. In both cases later calls with the
-   handle, except famsync_close, return FAMSYNC_BROKEN.
+   over if there was no memory to prepare a write or a sync. When the session is over, later calls
+   with the handle, except famsync_close, return FAMSYNC_BROKEN.
 
    After a failed sync the library flags the volume as suspect, as the program `famsync` does. The
    suspect flag is the file VOLUME.suspect beside the volume's file. FAMSYNC_UNMARKED: a sync
@@ -322,7 +322,7 @@ int famsync_msync(famsync *handle, uint64_t *mark);
 
    A call that fails undoes nothing, with two exceptions:
 
-   - A write or a sync failed after the undoing. Then all changes are undone.
+   - A write or a sync failed after all changes were undone.
    - FAMSYNC_SYSTEM: a system call on plain memory failed. If it failed during the undoing, a part
      of the changes may be undone. Then commits fail with FAMSYNC_TORN until a rollback succeeds. */
 int famsync_rollback(famsync *handle);
@@ -343,9 +343,9 @@ struct famsync_stat {
     uint64_t commits;       /* the number of the last acknowledged commit */
     uint64_t frames;        /* the most pages that one commit can have */
     uint64_t staged;        /* pages that wait for a commit, including pages of plain memory */
-    uint64_t unwritten;     /* layouts 1 to 4: blocks of each commit whose pages aren't completely
-                               written to their places (a block in two such commits counts twice);
-                               layouts 5 and 6: blocks of the log in use */
+    uint64_t unwritten;     /* layouts 1 to 4: blocks of each commit whose pages aren't all in
+                               their places (a block in two such commits counts twice); layouts 5
+                               and 6: blocks of the log in use */
     uint64_t reads;         /* reads of the volume's file */
     uint64_t writes;        /* writes to the volume's file */
     uint64_t syncs;         /* syncs of the volume's file */
@@ -358,20 +358,20 @@ int famsync_stat(famsync *handle, struct famsync_stat *stat);
 
 /* Makes a backup: a volume with all changes up to the last commit acknowledged before the backup
    began. Opening the backup needs no recovery. The call empties the file that `descriptor` refers
-   to, and writes the backup to this file. FAMSYNC_ARGUMENT: this file isn't a regular file, or is
-   the volume's file. `descriptor` must be open for reading and writing, without O_APPEND (otherwise
-   FAMSYNC_ARGUMENT, too). Blocks of zeros become holes. When the call succeeds, the backup is
-   synced. If you created the file for the backup, sync its folder, too.
+   to, and writes the backup to this file. FAMSYNC_ARGUMENT: this file is the volume's file, or
+   isn't a regular file. `descriptor` must be open for reading and writing, without O_APPEND
+   (otherwise FAMSYNC_ARGUMENT, too). Blocks of zeros become holes. When the call succeeds, the
+   backup is synced. If you created the file for the backup, sync its folder, too.
 
    Other threads may use the handle during the backup, even for famsync_msync. FAMSYNC_BUSY: another
    backup with this handle is in progress. The library locks the backup's file like a volume until
    the call returns. FAMSYNC_INUSE: this file is already locked.
 
    FAMSYNC_SYSTEM: the library couldn't write the backup's file. FAMSYNC_DEVICE: the library
-   couldn't read the volume, and the session continues. Or the library couldn't write committed
-   pages to their places, and the session is over. After a failure the backup's file is unchanged,
-   or isn't a volume, or is a whole backup that might not be durable. If the session continues, a
-   failed backup doesn't affect commits. */
+   couldn't read the volume (the session continues), or couldn't write committed pages to their
+   places (the session is over). After a failure the backup's file is unchanged, incomplete (not a
+   volume), or complete but possibly not durable. If the session continues, a failed backup doesn't
+   affect commits. */
 int famsync_backup(famsync *handle, int descriptor);
 
 /*
@@ -404,10 +404,10 @@ int famsync_backup(famsync *handle, int descriptor);
  * Some stores don't reach the library's handler:
  *
  * - A store by the kernel raises no signal. So read(2) and similar calls fail with EFAULT if they
- *   store to a page that isn't writable yet.
- * - If a thread that blocks SIGSEGV stores to such a page, the system kills the process.
+ *   store to a read-only page.
+ * - If a thread that blocks SIGSEGV stores to a read-only page, the system kills the process.
  * - If the program later installs another handler of SIGSEGV, the new handler gets the signals of
- *   stores to plain memory. The new handler should pass them to the previous handler.
+ *   stores to plain memory. The new handler should pass these signals to the previous handler.
  *
  * In all three cases the program can make pages writable in advance with famsync_memory_touch. If
  * another handler has replaced the library's handler, the next famsync_memory_open installs the
@@ -433,8 +433,8 @@ int famsync_memory_open(famsync *handle, const char *file, famsync_memory **memo
 /* Opens plain memory at a given address, so that the file can contain pointers into itself. A null
    pointer means any address. The memory occupies the addresses for the file's whole capacity, the
    page before them, and the page after them. FAMSYNC_ADDRESS: the address isn't a multiple of the
-   page size. Or the occupied addresses begin below 65,536, end above the highest possible address,
-   or contain other memory. */
+   system's page size. Or the occupied addresses begin below 65,536, end above the highest possible
+   address, or contain other memory. */
 int famsync_memory_open_at(famsync *handle, const char *file, void *address, famsync_memory **memory);
 
 /* famsync_memory_at returns the address of the memory. This address never changes.

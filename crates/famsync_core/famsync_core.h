@@ -3,11 +3,11 @@
  * files. docs/CLAIMS.md lists what is proved about the library. The library makes no system call.
  *
  * The program that uses the core is called the host. The host reads blocks of the volume, and
- * supplies them to the core. Pages from famsync_core_write wait in the core's memory for the next
- * commit. To make a commit durable, the core records calls for the host to make: writes and syncs
- * of the volume's file. The host makes these calls in order, and then reports to the core that it
- * made them. A waiting call is a recorded call that the host hasn't reported yet. The host decides
- * how to make a call. The core decides which bytes are written, and where.
+ * supplies them to the core. Pages passed to famsync_core_write wait in the core's memory for the
+ * next commit. To make a commit durable, the core records calls for the host to make: writes and
+ * syncs of the volume's file. The host makes these calls in order, and then reports to the core
+ * that it made them. A waiting call is a recorded call that the host hasn't reported yet. The host
+ * decides how to make a call. The core decides which bytes are written, and where.
  *
  * The program below writes the first page of the first file, and commits. `tests/lint/core_header`
  * compiles and runs the program.
@@ -118,7 +118,7 @@ enum famsync_core_code {
     FAMSYNC_CORE_DAMAGED = -12,    /* block 0 begins with the magic of a layout, but the volume
                                       breaks a rule of the format */
 
-    /* why a function fails; famsync.h uses the same numbers, except for OTHER */
+    /* why a function fails; clients/c/famsync.h has the same numbers, but no OTHER */
     FAMSYNC_CORE_NOFRAME = -27, /* the next commit would have too many pages */
     FAMSYNC_CORE_DEVICE = -28,  /* out of memory, so a call couldn't be recorded */
     FAMSYNC_CORE_BROKEN = -29,  /* DEVICE was returned earlier: close the session, and open the
@@ -177,9 +177,8 @@ int64_t famsync_core_files(famsync_core core, uint8_t **at);
 int64_t famsync_core_frames(famsync_core core, uint8_t **at);
 int64_t famsync_core_head(famsync_core core, uint8_t **at);
 
-/* Writing a commit home needs syncs. Returns 1 if the syncs of later commits also serve this
-   purpose, and 0 otherwise. The result is 1 in layout 4, and in volumes with a log. Codes:
-   ORDER. */
+/* Returns 1 if writing a commit home can use the syncs of later commits, and 0 otherwise. The
+   result is 1 in layout 4, and in volumes with a log. Codes: ORDER. */
 int32_t famsync_core_shares_syncs(famsync_core core, uint8_t **at);
 
 /* Sets `*length` to a file's current length in bytes, even if this length still waits for a commit.
@@ -219,16 +218,16 @@ int32_t famsync_core_is_staged(famsync_core core, uint32_t file, uint64_t page, 
    Codes: OK, WANTED, NOMEMORY (call this function again), BROKEN, DEVICE, BUSY, ORDER.
 
    WANTED and NOMEMORY are returned only for volumes with a log. If the log has no room for the
-   commit, the function first records calls that write older commits home, in steps. A step or the
-   commit may need a block that isn't known. After WANTED or NOMEMORY, no finished step is undone,
-   and the pages and lengths still wait. */
+   commit, the function first makes steps of famsync_core_write_out. A step or the commit may need a
+   block that isn't known. After WANTED or NOMEMORY, finished steps are kept, and the pages and
+   lengths still wait. */
 int32_t famsync_core_commit(famsync_core core, uint32_t *mark, uint32_t *wanted, uint8_t **at);
 
 /* Returns the number of the last acknowledged commit, or 0 if no commit is acknowledged. A commit
    is acknowledged once the host has reported all calls that waited when famsync_core_commit
    returned OK for this commit. Calls recorded later may still wait. An acknowledged commit is
-   durable. If commit n + 1 is made before commit n is acknowledged, both commits are acknowledged
-   together. Codes: ORDER. */
+   durable. If commit n + 1 is made before commit n is acknowledged, commit n is acknowledged
+   together with commit n + 1. Codes: ORDER. */
 int64_t famsync_core_acknowledged(famsync_core core, uint8_t **at);
 
 /* Records calls that write earlier commits home. Makes at most `most` steps of this work.
@@ -236,13 +235,13 @@ int64_t famsync_core_acknowledged(famsync_core core, uint8_t **at);
    Codes: OK (steps remain), NONE (no step remains), WANTED, NOMEMORY (call this function again),
    BROKEN, DEVICE, ORDER.
 
-   WANTED and NOMEMORY are returned only for volumes with a log. After WANTED or NOMEMORY, no
-   finished step is undone. */
+   WANTED and NOMEMORY are returned only for volumes with a log. After WANTED or NOMEMORY, finished
+   steps are kept. */
 int32_t famsync_core_write_out(famsync_core core, uint32_t most, uint32_t *wanted, uint8_t **at);
 
-/* Some commits may need further steps of famsync_core_write_out. Returns the number of all blocks
-   in these commits. A block in two of these commits counts twice. For a volume with a log, returns
-   `*used` of famsync_core_log instead. Codes: ORDER. */
+/* Returns the number of all blocks in commits that need further steps of famsync_core_write_out. A
+   block in two of these commits counts twice. For a volume with a log, returns `*used` of
+   famsync_core_log instead. Codes: ORDER. */
 int64_t famsync_core_unwritten(famsync_core core, uint8_t **at);
 
 /* For a volume with a log, sets three numbers:
@@ -296,12 +295,12 @@ int32_t famsync_core_forget(famsync_core core, uint32_t block, uint8_t **at);
    before the volume is open. Call it only once for each handle. */
 void famsync_core_close(famsync_core core);
 
-/* The host defines these three functions. They call malloc, realloc and free of one allocator.
-   rattle_alloc and rattle_realloc return `ok` and `p`. If the allocator returns memory, `ok` is
-   true, and `p` points to this memory. Otherwise `ok` is false, and `p` points to any byte of the
-   program. `p` must never be null. `align` is the required alignment, at most 16. rattle_realloc
-   keeps the first `kept` bytes of the memory at `old`. If rattle_realloc fails, this memory doesn't
-   change. If `size` is 0, request at least one byte from the allocator. */
+/* The host defines these three functions. They call malloc, realloc and free, respectively, of one
+   allocator. rattle_alloc and rattle_realloc return `ok` and `p`. If the allocator returns memory,
+   `ok` is true, and `p` points to this memory. Otherwise `ok` is false, and `p` points to any byte
+   of the program. `p` must never be null. `align` is the required alignment, at most 16.
+   rattle_realloc keeps the first `kept` bytes of the memory at `old`. If rattle_realloc fails, this
+   memory doesn't change. If `size` is 0, request at least one byte from the allocator. */
 struct rattle_tried {
     bool ok;
     uint8_t *p;

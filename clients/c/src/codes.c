@@ -31,7 +31,7 @@ static const struct {
     {FAMSYNC_NOFILE, "the volume has no such file"},
     {FAMSYNC_BUSY, "a backup is being made, a thread stored during the commit, or no number is left for a commit"},
     {FAMSYNC_UNMARKED, "a sync of the volume failed, and its suspect flag couldn't be made"},
-    {FAMSYNC_NEEDSOPENING, "a crash or a failed sync left work: open the volume for writing once"},
+    {FAMSYNC_NEEDSOPENING, "a crash or a failed write or sync left work: open the volume for writing once"},
     {FAMSYNC_READONLY, "the session only reads"},
     {FAMSYNC_ADDRESS, "plain memory can't be at this address"},
     {FAMSYNC_TRACKING, "the system can't track stores to plain memory in the requested way"},
