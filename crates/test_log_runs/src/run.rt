@@ -31,6 +31,53 @@ pub struct Made {
     pub faults: u64,
 }
 
+// A run that is being made: the open files, the answers so far, and the number of device calls after the opening and
+// after each step.
+#[derive(Drop)]
+struct Course {
+    files: LogFiles<Disk, Global>,
+    answers: Vec<Answer>,
+    counts: Vec<usize>,
+}
+
+impl Course {
+    // Makes the steps. If `stops`, ends with the step whose call failed, and then makes a commit and a step.
+    fn make_all(&mut self, alloc: Global, steps: &[Said], stops: bool) -> Result<(), Failure> {
+        self.count()?;
+        for said in steps {
+            let failed = self.make(alloc, &said.step)?;
+            self.count()?;
+            if stops && failed {
+                return self.make_later(alloc, &said.step);
+            }
+        }
+        Ok(())
+    }
+
+    // Makes a commit and a step after a commit or a step that failed.
+    fn make_later(&mut self, alloc: Global, failed: &Step) -> Result<(), Failure> {
+        if matches!(failed, Step::Commit | Step::Step) {
+            self.make(alloc, &Step::Commit)?;
+            self.make(alloc, &Step::Step)?;
+        }
+        Ok(())
+    }
+
+    // Makes a step. Returns whether one of its device calls failed.
+    fn make(&mut self, alloc: Global, step: &Step) -> Result<bool, Failure> {
+        let answer = make(alloc, &mut self.files, step)?;
+        let failed = is_failed(&answer);
+        self.answers.push(answer)?;
+        Ok(failed)
+    }
+
+    // Notes the number of device calls so far.
+    fn count(&mut self) -> Result<(), Failure> {
+        let calls = self.files.device().calls() as usize;
+        Ok(self.counts.push(calls)?)
+    }
+}
+
 // Whether an answer is that to a step in which a device call failed.
 fn is_failed(answer: &Answer) -> bool {
     answer.is("device")
@@ -57,6 +104,7 @@ impl Run {
         }
     }
 
+    // Makes the steps on files that were opened.
     fn make_steps(
         &self,
         alloc: Global,
@@ -65,23 +113,17 @@ impl Run {
         files: LogFiles<Disk, Global>,
         stops: bool,
     ) -> Result<Made, Failure> {
-        let mut files = files;
-        let mut answers = Vec::new(alloc);
-        let mut counts = Vec::new(alloc);
-        counts.push(files.device().calls() as usize)?;
-        for said in &self.steps {
-            let answer = make(alloc, &mut files, &said.step)?;
-            let is_over = stops && is_failed(&answer);
-            answers.push(answer)?;
-            counts.push(files.device().calls() as usize)?;
-            if is_over {
-                if matches!(said.step, Step::Commit | Step::Step) {
-                    answers.push(make(alloc, &mut files, &Step::Commit)?)?;
-                    answers.push(make(alloc, &mut files, &Step::Step)?)?;
-                }
-                break;
-            }
-        }
+        let mut course = Course {
+            files,
+            answers: Vec::new(alloc),
+            counts: Vec::new(alloc),
+        };
+        course.make_all(alloc, &self.steps, stops)?;
+        let Course {
+            files,
+            answers,
+            counts,
+        } = course;
         made_on(
             alloc,
             image,
