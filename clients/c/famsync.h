@@ -334,10 +334,10 @@ uint64_t famsync_acknowledged(famsync *handle);
 const char *famsync_strerror(int code);
 
 /* Statistics of a session. Set `size` to the size of this structure. FAMSYNC_ARGUMENT: `size` is
-   too small for the field `memory`. Later versions of the library add fields after `memory`.
-   Earlier versions set the added fields to 0. `reads`, `writes` and `syncs` count system calls
-   since the session began, including failed calls. `syncs` doesn't count interrupted syncs, or the
-   first sync of famsync_open. */
+   too small for the field `memory`. Later versions of the library add fields after `memory`. A
+   library sets the fields that it doesn't know to 0. `reads`, `writes` and `syncs` count system
+   calls since the session began, including failed calls. `syncs` doesn't count interrupted syncs,
+   or the first sync of famsync_open. */
 struct famsync_stat {
     size_t size;
     uint64_t commits;       /* the number of the last acknowledged commit */
