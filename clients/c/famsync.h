@@ -130,14 +130,14 @@ struct famsync_options {
                             the flag */
     unsigned frames;     /* the most pages that one commit may have; 0 means the limit of the
                             volume */
-    unsigned copies;     /* ignored; it only keeps the offsets of later fields */
+    unsigned copies;     /* ignored; it only preserves the offsets of later fields */
     int foreground;      /* not 0: the library starts no thread (see famsync_msync) */
     char *message;       /* a buffer for one line that explains why the volume wasn't opened */
     size_t message_size; /* the buffer's size in bytes; a longer message is cut off */
     unsigned wait_ms;    /* how many milliseconds to wait for a volume that is in use */
     int readonly;        /* not 0: the session only reads */
     int resident;        /* not 0: famsync_memory_open reads the whole file instead of mapping it */
-    size_t budget;       /* how much memory, in bytes, committed pages of plain memory and their
+    size_t budget;       /* the number of bytes that committed pages of plain memory and their
                             copies may use (see famsync_memory_open); 0 means 64 MB */
     int tracking;        /* FAMSYNC_TRACK_SIGNALS or FAMSYNC_TRACK_KERNEL; see
                             famsync_memory_open */
@@ -334,18 +334,18 @@ uint64_t famsync_acknowledged(famsync *handle);
 const char *famsync_strerror(int code);
 
 /* Statistics of a session. Set `size` to the size of this structure. FAMSYNC_ARGUMENT: `size` is
-   too small for the field `memory`. Later versions of the library add fields after `memory`. A
-   library sets the fields that it doesn't know to 0. `reads`, `writes` and `syncs` count system
-   calls since the session began, including failed calls. `syncs` doesn't count interrupted syncs,
-   or the first sync of famsync_open. */
+   too small to include the field `memory`. Later versions of the library add fields after
+   `memory`. If the structure has fields that the library doesn't know, famsync_stat sets them to 0.
+   `reads`, `writes` and `syncs` count system calls since the session began, including failed calls.
+   `syncs` counts neither interrupted syncs nor the first sync of famsync_open. */
 struct famsync_stat {
     size_t size;
     uint64_t commits;       /* the number of the last acknowledged commit */
     uint64_t frames;        /* the most pages that one commit can have */
     uint64_t staged;        /* pages that wait for a commit, including pages of plain memory */
-    uint64_t unwritten;     /* layouts 1 to 4: blocks of each commit whose pages aren't all in
+    uint64_t unwritten;     /* layouts 1 to 4: all blocks of commits that have pages not yet in
                                their places (a block in two such commits counts twice); layouts 5
-                               and 6: blocks of the log in use */
+                               and 6: blocks of the log that are in use */
     uint64_t reads;         /* reads of the volume's file */
     uint64_t writes;        /* writes to the volume's file */
     uint64_t syncs;         /* syncs of the volume's file */
@@ -388,11 +388,11 @@ int famsync_backup(famsync *handle, int descriptor);
  * copies can exceed the budget by up to twice the log's length.
  *
  * As with any mapped file, a load raises SIGBUS if the volume's file can't be read or was
- * truncated. In a forked process, a page that wasn't stored to before the fork may have the bytes
- * of later commits. With `resident` the call reads the whole file instead of mapping it. The call
- * does the same if the system's pages are larger than 4,096 bytes, or if the system can't map the
- * volume's file. In these three cases there is no SIGBUS, `budget` has no effect, and a forked
- * process sees no later commit.
+ * truncated. In a forked process, pages may have the bytes of commits made after the fork. With
+ * `resident` the call reads the whole file instead of mapping it. The call does the same if the
+ * system's pages are larger than 4,096 bytes, or if the system can't map the volume's file. In
+ * these three cases there is no SIGBUS, `budget` has no effect, and a forked process sees no later
+ * commit.
  *
  * With FAMSYNC_TRACK_SIGNALS other threads may store during a commit. A commit contains exactly the
  * stores made before one moment within famsync_msync. This moment is the same for all threads, and
@@ -455,7 +455,7 @@ int famsync_memory_touch(famsync_memory *memory, size_t offset, size_t count);
 
 /* Closes the memory. After the call begins, no thread may use the memory. Stores to the memory
    since the last commit are lost. If famsync_msync failed after adding some of these stores to a
-   commit, later commits fail with FAMSYNC_TORN until a rollback succeeds. */
+   commit, closing makes later commits fail with FAMSYNC_TORN until a rollback succeeds. */
 int famsync_memory_close(famsync_memory *memory);
 
 #ifdef __cplusplus
