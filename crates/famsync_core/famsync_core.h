@@ -103,7 +103,7 @@ enum famsync_core_code {
     FAMSYNC_CORE_OK = 0,
     FAMSYNC_CORE_WANTED = 1, /* The function needs the block `*wanted`. Supply the block, and call
                                 the function again. */
-    FAMSYNC_CORE_NONE = 2,   /* From famsync_core_call: no call with this index waits. From
+    FAMSYNC_CORE_NONE = 2,   /* From famsync_core_call: no waiting call has index `index`. From
                                 famsync_core_write_out: no work remains. From famsync_core_log: the
                                 volume has no log. From famsync_core_forget: the block is kept. */
 
@@ -118,7 +118,7 @@ enum famsync_core_code {
     FAMSYNC_CORE_DAMAGED = -12,    /* block 0 begins with the magic of a layout, but the volume
                                       breaks a rule of the format */
 
-    /* why a function fails; clients/c/famsync.h has the same numbers, but no OTHER */
+    /* why a function fails; these codes, except OTHER, have the same numbers in clients/c/famsync.h */
     FAMSYNC_CORE_NOFRAME = -27, /* the next commit would have too many pages */
     FAMSYNC_CORE_DEVICE = -28,  /* out of memory, so a call couldn't be recorded */
     FAMSYNC_CORE_BROKEN = -29,  /* DEVICE was returned earlier: close the session, and open the
@@ -218,19 +218,19 @@ int32_t famsync_core_is_staged(famsync_core core, uint32_t file, uint64_t page, 
    Codes: OK, WANTED, NOMEMORY (call this function again), BROKEN, DEVICE, BUSY, ORDER.
 
    WANTED and NOMEMORY are returned only for volumes with a log. If the log has no room for the
-   commit, the function first makes steps of famsync_core_write_out. A step or the commit may need a
-   block that isn't known. After WANTED or NOMEMORY, finished steps are kept, and the pages and
-   lengths still wait. */
+   commit, the function first makes steps that write earlier commits home (see
+   famsync_core_write_out). A step or the commit may need a block that isn't known. After WANTED or
+   NOMEMORY, finished steps are kept, and the pages and lengths still wait. */
 int32_t famsync_core_commit(famsync_core core, uint32_t *mark, uint32_t *wanted, uint8_t **at);
 
 /* Returns the number of the last acknowledged commit, or 0 if no commit is acknowledged. A commit
    is acknowledged once the host has reported all calls that waited when famsync_core_commit
-   returned OK for this commit. Calls recorded later may still wait. An acknowledged commit is
-   durable. If commit n + 1 is made before commit n is acknowledged, commit n is acknowledged
-   together with commit n + 1. Codes: ORDER. */
+   returned OK for this commit. Calls recorded later may still wait. Exception: if commit n + 1 is
+   made before commit n is acknowledged, commit n is acknowledged only together with commit n + 1.
+   An acknowledged commit is durable. Codes: ORDER. */
 int64_t famsync_core_acknowledged(famsync_core core, uint8_t **at);
 
-/* Records calls that write earlier commits home. Makes at most `most` steps of this work.
+/* Records calls that write commits home. Makes at most `most` steps of this work.
 
    Codes: OK (steps remain), NONE (no step remains), WANTED, NOMEMORY (call this function again),
    BROKEN, DEVICE, ORDER.
@@ -239,9 +239,9 @@ int64_t famsync_core_acknowledged(famsync_core core, uint8_t **at);
    steps are kept. */
 int32_t famsync_core_write_out(famsync_core core, uint32_t most, uint32_t *wanted, uint8_t **at);
 
-/* Returns the number of all blocks in commits that need further steps of famsync_core_write_out. A
-   block in two of these commits counts twice. For a volume with a log, returns `*used` of
-   famsync_core_log instead. Codes: ORDER. */
+/* Counts all blocks of each commit that needs further steps of famsync_core_write_out, and returns
+   the sum. A block in two of these commits counts twice. For a volume with a log, returns `*used`
+   of famsync_core_log instead. Codes: ORDER. */
 int64_t famsync_core_unwritten(famsync_core core, uint8_t **at);
 
 /* For a volume with a log, sets three numbers:
@@ -295,8 +295,8 @@ int32_t famsync_core_forget(famsync_core core, uint32_t block, uint8_t **at);
    before the volume is open. Call it only once for each handle. */
 void famsync_core_close(famsync_core core);
 
-/* The host defines these three functions. They call malloc, realloc and free, respectively, of one
-   allocator. rattle_alloc and rattle_realloc return `ok` and `p`. If the allocator returns memory,
+/* The host defines these three functions. They call one allocator's malloc, realloc and free,
+   respectively. rattle_alloc and rattle_realloc return `ok` and `p`. If the allocator returns memory,
    `ok` is true, and `p` points to this memory. Otherwise `ok` is false, and `p` points to any byte
    of the program. `p` must never be null. `align` is the required alignment, at most 16.
    rattle_realloc keeps the first `kept` bytes of the memory at `old`. If rattle_realloc fails, this
