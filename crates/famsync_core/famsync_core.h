@@ -118,7 +118,7 @@ enum famsync_core_code {
     FAMSYNC_CORE_DAMAGED = -12,    /* block 0 begins with the magic of a layout, but the volume
                                       breaks a rule of the format */
 
-    /* why a function fails; these codes, except OTHER, have the same numbers in clients/c/famsync.h */
+    /* why a function fails; these numbers, except OTHER's, are the same in clients/c/famsync.h */
     FAMSYNC_CORE_NOFRAME = -27, /* the next commit would have too many pages */
     FAMSYNC_CORE_DEVICE = -28,  /* out of memory, so a call couldn't be recorded */
     FAMSYNC_CORE_BROKEN = -29,  /* DEVICE was returned earlier: close the session, and open the
@@ -296,9 +296,9 @@ int32_t famsync_core_forget(famsync_core core, uint32_t block, uint8_t **at);
 void famsync_core_close(famsync_core core);
 
 /* The host defines these three functions. They call one allocator's malloc, realloc and free,
-   respectively. rattle_alloc and rattle_realloc return `ok` and `p`. If the allocator returns memory,
-   `ok` is true, and `p` points to this memory. Otherwise `ok` is false, and `p` points to any byte
-   of the program. `p` must never be null. `align` is the required alignment, at most 16.
+   respectively. rattle_alloc and rattle_realloc return `ok` and `p`. If the allocator returns
+   memory, `ok` is true, and `p` points to this memory. Otherwise `ok` is false, and `p` points to
+   any byte of the program. `p` must never be null. `align` is the required alignment, at most 16.
    rattle_realloc keeps the first `kept` bytes of the memory at `old`. If rattle_realloc fails, this
    memory doesn't change. If `size` is 0, request at least one byte from the allocator. */
 struct rattle_tried {
