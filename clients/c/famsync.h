@@ -198,8 +198,8 @@ struct famsync_plan {
    failure ends the session (FAMSYNC_DEVICE).
 
    In layouts 5 and 6 the library writes the pages of many commits to their places in one pass. A
-   commit makes two syncs in layout 5, and one in layout 6. Only layout 6 assumes that a partly
-   written commit never matches its digest (checksum).
+   commit makes two syncs in layout 5, and one in layout 6. Only layout 6 assumes that no
+   partly written commit and no old bytes in the log match a digest (checksum).
 
    FAMSYNC_ARGUMENT: the plan is invalid; `message` has the reason. FAMSYNC_SYSTEM with EEXIST:
    VOLUME or VOLUME.new already exists. */
