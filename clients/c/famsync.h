@@ -1,12 +1,12 @@
 /*
  * libfamsync: a library for files whose changes become durable together. A volume is one disk file
- * (the volume's file) that contains up to 64 files. A commit makes all changes to these files
- * durable, or none. The library runs in the caller's process.
+ * (the volume's file) that contains up to 64 files. A commit makes all changes since the previous
+ * commit durable, or none.
  *
- * famsync_format and the command `famsync format` make volumes. famsync_open opens and locks a
- * volume's file, and begins a session with the volume. The call sets `*handle` to the session's
- * handle. At any time a volume has either one session that writes, or any number of sessions that
- * only read. This rule includes sessions of the program `famsync`.
+ * famsync_format and the command `famsync format` make volumes. famsync_open begins a session with
+ * a volume, locks the volume's file, and sets `*handle` to the session's handle. At any time a
+ * volume can have either one session that writes, or any number of sessions that only read.
+ * Sessions include those of the program `famsync`.
  *
  * A program can access the bytes of a file in two ways:
  *
@@ -18,9 +18,9 @@
  * One session may use both ways, even for the same file.
  *
  * famsync_msync commits all changes of a session. The commit is acknowledged when the call returns
- * FAMSYNC_OK. If this process is killed or the system crashes, the next session finds all changes
- * up to a commit C, and no later changes. C is the last acknowledged commit, or a later commit that
- * wasn't acknowledged.
+ * FAMSYNC_OK. If this process is killed or the system crashes, the next session finds the files as
+ * one commit left them. This commit is the last acknowledged commit, or a later, unacknowledged
+ * commit.
  *
  * A page is 4,096 bytes of a file. A block is 4,096 bytes of the volume's file. Each page has a
  * block of its own, called the page's place. The volume's file also contains journals or a log. A
@@ -29,20 +29,21 @@
  *
  * Each call that returns an int returns FAMSYNC_OK or one of the negative codes below.
  * famsync_strerror describes a code. Any number of threads may use one handle. Their calls take
- * turns. No call is a cancellation point: if a thread is canceled within a call, the call still
- * completes.
+ * turns. If a thread is canceled within a call, the call still completes.
  *
- * A forked process has a copy of the handle, but the session belongs to the process that called
- * famsync_open. In the forked process, calls that return a code fail with FAMSYNC_FORKED if they
- * use the copied handle or its plain memory. Two calls return FAMSYNC_OK instead: famsync_close
- * does nothing, and famsync_memory_close frees the copied memory. The copied handle uses memory
- * until the forked process ends or calls exec. Only the process that called famsync_open keeps the
- * volume locked. A child of vfork shares the memory of its parent. Stores of the child to plain
- * memory count as stores of the parent. The child must not call the library.
+ * A session belongs to the process that called famsync_open. Only this process keeps the volume
+ * locked. A forked process gets copies of the handle and of plain memory. In the forked process:
+ *
+ *   - famsync_close returns FAMSYNC_OK, but does nothing. The copied handle uses memory until the
+ *     forked process ends or calls exec.
+ *   - famsync_memory_close returns FAMSYNC_OK, and frees the copied memory.
+ *   - Other calls with these copies fail with FAMSYNC_FORKED if they return an int.
+ *
+ * A child of vfork must not call the library. The child's stores to plain memory count as stores of
+ * the parent.
  *
  * A file can't grow past its capacity, which is set when the volume is made. A layout is one of six
- * formats of a volume (see struct famsync_plan). In layouts 1 and 2 the length of a file never
- * changes.
+ * formats of a volume (see struct famsync_plan). In layouts 1 and 2 file lengths never change.
  */
 #ifndef FAMSYNC_H
 #define FAMSYNC_H
@@ -67,42 +68,41 @@ enum famsync_code {
     FAMSYNC_NOMEMORY = -2, /* memory couldn't be allocated */
     FAMSYNC_SYSTEM = -3,   /* a system call failed, and errno has the cause; EPROTO means a bug in
                               the library */
-    FAMSYNC_INUSE = -6,    /* Another session has the volume open. */
+    FAMSYNC_INUSE = -6,    /* another session or a backup has locked the file */
     FAMSYNC_SUSPECT = -7,  /* An earlier sync failed, so the volume is flagged as suspect
                               (see famsync_msync and the option `trust`). */
     FAMSYNC_FORKED = -11,  /* a forked process used its copy of the handle */
-    FAMSYNC_TORN = -12,    /* Plain memory was closed after a failed msync (see
+    FAMSYNC_TORN = -12,    /* Plain memory was closed after a failed famsync_msync (see
                               famsync_memory_close), or a rollback failed halfway. Call
                               famsync_rollback before the next commit. */
 
     /* why a volume isn't opened */
     FAMSYNC_NOTREGULAR = -13, /* the path names a folder, a device, a pipe or a socket */
     FAMSYNC_NAMES = -14,      /* The file has several names (hard links). Another process could use
-                                 it under another name. */
+                                 the file under another name. */
     FAMSYNC_REPLACED = -15,   /* Other programs replaced the file while the library was opening
                                  it. */
     FAMSYNC_NOTAVOLUME = -16, /* the file doesn't begin like a volume */
     FAMSYNC_DAMAGED = -17,    /* the file begins like a volume, but its bytes or its length break
                                  the rules of the format */
-    FAMSYNC_SHAPE = -18,      /* the option `frames` is larger than the number of pages that one
-                                 commit to this volume can have */
+    FAMSYNC_SHAPE = -18,      /* the option `frames` is above the volume's limit (see
+                                 famsync_format) */
 
     /* why an access or a commit is refused */
-    FAMSYNC_NOFRAME = -27, /* the pages that were written, or added to a file, are too many for
-                              one commit */
+    FAMSYNC_NOFRAME = -27, /* too many pages for one commit were written or added */
     FAMSYNC_DEVICE = -28,  /* a read, a write or a sync of the volume failed; errno has the cause */
     FAMSYNC_BROKEN = -29,  /* a write or a sync failed earlier, so the session is over */
     FAMSYNC_EINVAL = -30,  /* a write past the file's end, or a length that the file can't have */
     FAMSYNC_OVERLAP = -33, /* plain memory of the file is already open */
     FAMSYNC_NOFILE = -34,  /* the volume has no such file */
     FAMSYNC_BUSY = -35,    /* From famsync_backup: another backup is being made. From
-                              famsync_msync: a thread stored to plain memory during the commit
-                              (only with FAMSYNC_TRACK_KERNEL), or the session has made 2^32 - 1
-                              commits. */
+                              famsync_msync: the session has made 2^32 - 1 commits. Or a thread
+                              stored to plain memory during the commit (only with
+                              FAMSYNC_TRACK_KERNEL). */
 
     /* the suspect flag (see famsync_msync), and sessions that only read */
     FAMSYNC_UNMARKED = -39,     /* a sync failed, and the library couldn't make the suspect flag */
-    FAMSYNC_NEEDSOPENING = -40, /* with `readonly`: the volume must first be opened once without
+    FAMSYNC_NEEDSOPENING = -40, /* the volume must first be opened once without the option
                                    `readonly` (see famsync_open) */
     FAMSYNC_READONLY = -41,     /* the session only reads */
 
@@ -114,31 +114,30 @@ enum famsync_code {
 typedef struct famsync famsync;
 typedef struct famsync_memory famsync_memory;
 
-/* A buffer of this size has room for any message of famsync_open (see the option `message`). The
-   longest message contains two paths. */
+/* A buffer of this size has room for any message of famsync_open (see the option `message`). */
 #define FAMSYNC_MESSAGE_SIZE 9000
 
 /* The options of famsync_open. A null pointer as `options` means that all options are 0.
 
    Set `size` to the size of this structure. Later versions of the library add fields at the end.
    The library learns from `size` which fields the program's structure has. If `size` is 0, the
-   library uses only the fields up to and including `readonly`. If the program's structure is larger
-   than the library's, the additional bytes must be 0 (otherwise FAMSYNC_ARGUMENT). */
+   library ignores the fields after `readonly`. If the program's structure is larger than the
+   library's, the additional bytes must be 0 (otherwise FAMSYNC_ARGUMENT). */
 struct famsync_options {
     size_t size;
     int trust;           /* not 0: open the volume even if it is flagged as suspect, and remove
                             the flag */
     unsigned frames;     /* the most pages that one commit may have; 0 means the limit of the
                             volume */
-    unsigned copies;     /* ignored; it only preserves the offsets of later fields */
+    unsigned copies;     /* ignored */
     int foreground;      /* not 0: the library starts no thread (see famsync_msync) */
     char *message;       /* a buffer for one line that explains why the volume wasn't opened */
     size_t message_size; /* the buffer's size in bytes; a longer message is cut off */
     unsigned wait_ms;    /* how many milliseconds to wait for a volume that is in use */
     int readonly;        /* not 0: the session only reads */
     int resident;        /* not 0: famsync_memory_open reads the whole file instead of mapping it */
-    size_t budget;       /* the number of bytes that committed pages of plain memory and their
-                            copies may use (see famsync_memory_open); 0 means 64 MB */
+    size_t budget;       /* how many bytes committed pages of plain memory and their copies may use
+                            (see famsync_memory_open); 0 means 64 MB */
     int tracking;        /* FAMSYNC_TRACK_SIGNALS or FAMSYNC_TRACK_KERNEL; see
                             famsync_memory_open */
 };
@@ -149,9 +148,9 @@ enum famsync_tracking { FAMSYNC_TRACK_SIGNALS = 0, FAMSYNC_TRACK_KERNEL = 1 };
 /* Returns the version of the library that this program runs with. */
 const char *famsync_version(void);
 
-/* A file of a new volume. `name` has 1 to 32 characters from '!' to '~'. `length` is in bytes.
-   `capacity` is the greatest length that the file may have; 0 means `length`. In layouts 1 and 2
-   `capacity` has to be 0 or equal to `length`. */
+/* A file of a new volume. `name` has 1 to 32 characters from '!' to '~'. `length` and `capacity`
+   are in bytes. `capacity` is the file's greatest possible length; 0 means `length`. In layouts 1
+   and 2 `capacity` has to be 0 or equal to `length`. */
 struct famsync_new_file {
     const char *name;
     uint64_t length;
@@ -183,50 +182,53 @@ struct famsync_plan {
 };
 
 /* Makes a volume in a new file with the path `volume` (below: VOLUME). The files in the volume
-   contain zeros. When the call succeeds, the volume is durable. The volume has the same bytes as a
-   volume that `famsync format` makes with the same layout, slots, files, log and key. If the call
-   fails or the process is killed, the new file VOLUME is either complete or doesn't exist. If the
-   system lacks unnamed files (O_TMPFILE) or /proc, the library makes the volume in VOLUME.new.
-   Afterwards the library renames VOLUME.new to VOLUME. VOLUME.new may remain if the process is
-   killed or the system crashes.
+   contain zeros. When the call succeeds, the volume is durable. If the call fails or the process is
+   killed, the new file VOLUME is either complete or doesn't exist. If the system lacks unnamed
+   files (O_TMPFILE) or /proc, the library makes the volume in VOLUME.new. Afterwards the library
+   renames VOLUME.new to VOLUME. VOLUME.new may remain if the process is killed or the system
+   crashes.
 
-   A commit has at most `slots` pages in layouts 1 and 2, and at most `slots` - 1 pages in layouts 3
-   and 4. In layouts 5 and 6 the log must have room for a commit's pages and a list of these pages.
-   The log also needs one block for the files' lengths, and one free block. So with a log of 16,384
-   blocks a commit has at most 16,366 pages. In all layouts a commit has at most 65,534 pages.
-   Without `preallocate`, a full disk makes the library's first write to a block fail. Such a
-   failure ends the session (FAMSYNC_DEVICE).
+   A commit can have at most this number of pages:
 
-   In layouts 5 and 6 the library writes the pages of many commits to their places in one pass. A
-   commit makes two syncs in layout 5, and one in layout 6. Only layout 6 assumes that no
-   partly written commit and no old bytes in the log match a digest (checksum).
+   - Layouts 1 and 2: `slots`.
+   - Layouts 3 and 4: `slots` - 1.
+   - Layouts 5 and 6: 16,366 if the log has 16,384 blocks. The log must have room for the pages, a
+     list of the pages, a block with the files' lengths, and one free block.
+   - All layouts: 65,534.
 
-   FAMSYNC_ARGUMENT: the plan is invalid; `message` has the reason. FAMSYNC_SYSTEM with EEXIST:
-   VOLUME or VOLUME.new already exists. */
+   Without `preallocate`, a full disk makes the library's first write to a block fail. This failure
+   ends the session (FAMSYNC_DEVICE).
+
+   A commit makes two syncs in layout 5, and one in layout 6. Layout 6 assumes that no partly
+   written commit and no old bytes in the log match a digest.
+
+   FAMSYNC_ARGUMENT: the plan is invalid. `message` has the reason, unless `size` is invalid.
+   FAMSYNC_SYSTEM with EEXIST: VOLUME or VOLUME.new already exists. */
 int famsync_format(const char *volume, const struct famsync_plan *plan);
 
 /* Begins a session with a volume. The volume's file must be a regular file with only one name. If
    the path is a symbolic link, the library opens the link's target. The file is locked until the
-   session ends. The session uses memory for the pages of its commits. On failure `*handle` is set
-   to a null pointer.
+   session ends. On failure `*handle` is set to a null pointer.
 
-   FAMSYNC_INUSE: another session still has the volume open after `wait_ms` milliseconds.
-   FAMSYNC_SYSTEM with ENAMETOOLONG: the name of the volume's file has more than 247 bytes. So the
-   name of the suspect flag, the file VOLUME.suspect, would be too long.
+   FAMSYNC_INUSE: another session or backup still locks the file after `wait_ms` milliseconds.
+   FAMSYNC_SYSTEM with ENAMETOOLONG: the file's name has more than 247 bytes.
 
-   With `readonly` the library opens the file only for reading, and writes nothing. Any number of
-   such sessions can share a volume. With `readonly` the option `trust` has no effect.
-   FAMSYNC_NEEDSOPENING, only with `readonly`: some committed pages aren't in their places yet, or
-   the volume is flagged as suspect. In both cases open the volume once without `readonly`, and
-   close it. If the volume is flagged, this opening needs `trust`. In a session with `readonly`,
-   famsync_write, famsync_setlength, famsync_msync, famsync_rollback and famsync_memory_touch return
-   FAMSYNC_READONLY. A store to plain memory of such a session raises SIGSEGV, which the library
-   doesn't handle. */
+   With the option `readonly`:
+
+   - The library opens the file only for reading, and writes nothing. The option `trust` has no
+     effect.
+   - FAMSYNC_NEEDSOPENING: some committed pages aren't in their places yet, or the volume is flagged
+     as suspect. Open the volume once without `readonly`, and close it. If the volume is flagged,
+     this opening needs `trust`.
+   - famsync_write, famsync_setlength, famsync_msync, famsync_rollback and famsync_memory_touch
+     return FAMSYNC_READONLY.
+   - A store to plain memory raises SIGSEGV, which the library doesn't handle. */
 int famsync_open(const char *volume, const struct famsync_options *options, famsync **handle);
 
-/* Ends a session and frees the handle. Changes since the last commit are lost. Before the call,
-   close all plain memory of the handle (otherwise FAMSYNC_ARGUMENT). No other call with the handle
-   may be in progress. The call writes committed pages to their places before the session ends.
+/* Ends a session and frees the handle. Changes since the last commit are lost. No other call with
+   the handle may be in progress. famsync_close first writes committed pages to their places.
+
+   FAMSYNC_ARGUMENT: plain memory of the handle is still open. The session continues.
    FAMSYNC_DEVICE: a write or a sync failed during the session, or a read failed during this call.
    Even if the call returns FAMSYNC_DEVICE, FAMSYNC_UNMARKED or FAMSYNC_NOMEMORY, the handle is
    freed, and all acknowledged commits are durable. */
@@ -246,38 +248,35 @@ unsigned famsync_frames(const famsync *handle);
 /* Sets the length of a file, as ftruncate does. FAMSYNC_EINVAL: the length is more than the file's
    capacity, or the volume has layout 1 or 2. If the file shrinks, the bytes past its new end are
    lost. If the file grows, the added bytes are zeros. Like a write, the new length becomes durable
-   with the next famsync_msync. The new length is lost if the session ends before that.
+   with the next famsync_msync.
 
-   All pages that are added to a file wait for the next commit, like written pages. If the file's
-   old end is within a page, this page waits, too. FAMSYNC_NOFRAME: these pages and the pages that
-   already waited are together too many for one commit. In this case grow the file in steps, with an
-   msync after each step. A call that fails changes nothing.
+   All added pages wait for the next commit, like written pages. If the file's old end is within a
+   page, this page waits, too. FAMSYNC_NOFRAME: more pages would wait than one commit can have. In
+   this case grow the file in steps, with a famsync_msync after each step. A call that fails changes
+   nothing.
 
    If plain memory of the file is open, this memory grows or shrinks in place. The program must no
    longer use bytes past the new end. FAMSYNC_SYSTEM: the system refused to resize the memory. */
 int famsync_setlength(famsync *handle, const char *file, uint64_t length);
 
-/* Reads `count` bytes of a file from `offset` on. The bytes include changes of this session that
-   aren't committed yet. `*done` is set to the number of bytes read; `done` may be a null pointer.
-   If the file ends before `offset` + `count`, the call reads only the bytes up to the file's end,
-   and returns FAMSYNC_OK. If a read of the volume fails, `*done` is the number of bytes read before
-   the failure. */
+/* Reads `count` bytes of a file from `offset` on, including uncommitted changes of this session.
+   `*done` is set to the number of bytes read; `done` may be a null pointer. If the file ends before
+   `offset` + `count`, the call reads only the bytes up to the file's end, and returns FAMSYNC_OK.
+   If a read of the volume fails, `*done` is the number of bytes read before the failure. */
 int famsync_read(famsync *handle, unsigned file, uint64_t offset, void *bytes, size_t count, size_t *done);
 
 /* Writes `count` bytes to a file from `offset` on. `*done` is set to the number of bytes written;
-   `done` may be a null pointer. The written bytes wait in memory for the next famsync_msync. They
-   are lost if the session ends before that.
+   `done` may be a null pointer. The written bytes wait in memory for the next famsync_msync.
 
    FAMSYNC_EINVAL: a written byte would be past the file's end; famsync_setlength makes a file
-   longer. FAMSYNC_NOFRAME: the pages of this write and the pages that already wait are together too
-   many for one commit. In both cases nothing is written. If the call writes only a part of a page,
-   the library first reads the rest of this page. If this read fails, the call returns
-   FAMSYNC_DEVICE. After FAMSYNC_DEVICE or FAMSYNC_NOMEMORY, `*done` is the number of bytes written
-   before the failure.
+   longer. FAMSYNC_NOFRAME: more pages would wait than one commit can have. In both cases nothing is
+   written.
+
+   FAMSYNC_DEVICE: the library couldn't read a page that the call writes only in part. After
+   FAMSYNC_DEVICE or FAMSYNC_NOMEMORY, `*done` is the number of bytes written before the failure.
 
    If plain memory of the file is open, famsync_read and famsync_write use this memory. A write is
-   then a store to this memory. Before the store the library makes the pages writable, as
-   famsync_memory_touch does. */
+   then a store to this memory. */
 int famsync_write(famsync *handle, unsigned file, uint64_t offset, const void *bytes, size_t count, size_t *done);
 
 /* Commits all changes of this session: writes, stores to plain memory, and lengths. A commit makes
@@ -286,36 +285,35 @@ int famsync_write(famsync *handle, unsigned file, uint64_t offset, const void *b
    pointer. Threads that call famsync_msync during a commit share the next commit. If the call fails
    and the session continues, all changes wait for the next call.
 
-   FAMSYNC_NOFRAME: the pages of all changes are together too many for one commit, and nothing is
-   committed. Later commits fail, too, until you discard some changes. To discard the stores to
-   plain memory, close this memory. If the remaining changes fit into one commit, the next call can
-   commit them.
+   FAMSYNC_NOFRAME: the changed pages are too many for one commit, and nothing is committed. Later
+   commits fail, too, until you discard changes. famsync_rollback discards all changes. Closing
+   plain memory discards the stores to this memory.
 
-   FAMSYNC_DEVICE: a read, a write or a sync failed, and nothing is acknowledged. If errno is
-   ENOMEM, memory couldn't be allocated, and the disk didn't fail. After a failed read the session
-   continues, and you may call again. After a failed write or sync the session is over. It is also
-   over if there was no memory to prepare a write or a sync. When the session is over, later calls
-   with the handle, except famsync_close, return FAMSYNC_BROKEN.
+   FAMSYNC_DEVICE: a read, a write or a sync failed, and nothing is acknowledged.
 
-   After a failed sync the library flags the volume as suspect, as the program `famsync` does. The
-   suspect flag is the file VOLUME.suspect beside the volume's file. FAMSYNC_UNMARKED: a sync
-   failed, and the library couldn't make this flag durable. So the next session might not notice the
-   failed sync.
+   - After a failed read the session continues, and you may call again.
+   - After a failed write or sync the session is over. The session is also over if the library had
+     no memory to prepare a write or a sync. In this case errno is ENOMEM.
+   - When the session is over, later calls with the handle, except famsync_close, return
+     FAMSYNC_BROKEN.
+
+   After a failed sync the library flags the volume as suspect. The suspect flag is the file
+   VOLUME.suspect beside the volume's file. FAMSYNC_UNMARKED: a sync failed, and the library
+   couldn't make this flag durable. So the next session might not notice the failed sync.
 
    After a commit is acknowledged, the library writes the commit's pages to their places. A thread
-   of the library does this while no call is in progress, or a later call does it. In layouts 4 to 6
-   the thread begins to write when 10 ms have passed without a commit. In layouts 5 and 6 it also
-   begins when half of the log is in use. With `foreground` there is no such thread. */
+   of the library does this while no call is in progress. A later call writes the remaining pages.
+   In layouts 4 to 6 the thread begins to write after 10 ms without a commit. In layouts 5 and 6 the
+   thread also begins when half of the log is in use. With `foreground` there is no such thread. */
 int famsync_msync(famsync *handle, uint64_t *mark);
 
-/* Undoes all changes of this session since the last commit: writes, lengths and stores to plain
-   memory. Other threads may store during the call, except with FAMSYNC_TRACK_KERNEL. The call
+/* Undoes all changes of this session since the last commit: writes, stores to plain memory, and
+   lengths. Other threads may store during the call, except with FAMSYNC_TRACK_KERNEL. The call
    undoes exactly the stores before one moment within the call. If a new length of a file is undone,
    plain memory of this file grows or shrinks in place, as with famsync_setlength.
 
-   In most cases the call first writes committed pages to their places. If a write or a new length
-   waits for a commit, the library also opens the volume a second time. During the call this second
-   opening needs as much memory as another session.
+   The call may first write committed pages to their places. If a write or a new length waits for a
+   commit, the call needs as much memory as another session.
 
    FAMSYNC_DEVICE or FAMSYNC_UNMARKED: a read, a write or a sync failed. After a failed read the
    session continues. After a failed write or sync the session is over (see famsync_msync).
@@ -343,86 +341,93 @@ struct famsync_stat {
     uint64_t commits;       /* the number of the last acknowledged commit */
     uint64_t frames;        /* the most pages that one commit can have */
     uint64_t staged;        /* pages that wait for a commit, including pages of plain memory */
-    uint64_t unwritten;     /* layouts 1 to 4: all blocks of commits that have pages not yet in
-                               their places (a block in two such commits counts twice); layouts 5
-                               and 6: blocks of the log that are in use */
+    uint64_t unwritten;     /* Layouts 1 to 4: all blocks of commits whose pages aren't all in
+                               their places yet. A block in two of these commits counts twice.
+                               Layouts 5 and 6: blocks of the log that are in use. */
     uint64_t reads;         /* reads of the volume's file */
     uint64_t writes;        /* writes to the volume's file */
     uint64_t syncs;         /* syncs of the volume's file */
     uint64_t bytes_written; /* bytes written to the volume's file */
-    uint64_t memory;        /* bytes of memory (not plain memory) that all sessions of this process
-                               use for pages and commits */
+    uint64_t memory;        /* bytes of memory, without plain memory, that all sessions of this
+                               process use for pages and commits */
 };
 
 int famsync_stat(famsync *handle, struct famsync_stat *stat);
 
 /* Makes a backup: a volume with all changes up to the last commit acknowledged before the backup
    began. Opening the backup needs no recovery. The call empties the file that `descriptor` refers
-   to, and writes the backup to this file. FAMSYNC_ARGUMENT: this file is the volume's file, or
-   isn't a regular file. `descriptor` must be open for reading and writing, without O_APPEND
-   (otherwise FAMSYNC_ARGUMENT, too). Blocks of zeros become holes. When the call succeeds, the
+   to, and writes the backup to this file. Blocks of zeros become holes. When the call succeeds, the
    backup is synced. If you created the file for the backup, sync its folder, too.
 
-   Other threads may use the handle during the backup, even for famsync_msync. FAMSYNC_BUSY: another
-   backup with this handle is in progress. The library locks the backup's file like a volume until
-   the call returns. FAMSYNC_INUSE: this file is already locked.
+   Other threads may use the handle during the backup, even for famsync_msync. The library locks the
+   backup's file like a volume until the call returns.
 
-   FAMSYNC_SYSTEM: the library couldn't write the backup's file. FAMSYNC_DEVICE: the library
-   couldn't read the volume (the session continues), or couldn't write committed pages to their
-   places (the session is over). After a failure the backup's file is unchanged, incomplete (not a
-   volume), or complete but possibly not durable. If the session continues, a failed backup doesn't
-   affect commits. */
+   - FAMSYNC_ARGUMENT: the backup's file is the volume's file, or isn't a regular file. Or
+     `descriptor` isn't open for reading and writing, or has O_APPEND.
+   - FAMSYNC_BUSY: another backup with this handle is in progress.
+   - FAMSYNC_INUSE: the backup's file is already locked.
+   - FAMSYNC_SYSTEM: the library couldn't write the backup's file.
+   - FAMSYNC_DEVICE: the library couldn't read the volume, and the session continues. Or it couldn't
+     write committed pages to their places, and the session is over.
+
+   After a failure the backup's file is unchanged, incomplete (not a volume), or complete but
+   possibly not durable. If the session continues, a failed backup doesn't affect commits. */
 int famsync_backup(famsync *handle, int descriptor);
 
 /*
  * Opens plain memory: a whole file of the volume as memory of this process. The memory is a private
- * mapping of the volume's file, so the call reads almost nothing. At first all pages of the memory
- * are read-only. The first store to a page raises SIGSEGV. The library's handler of this signal
- * notes the store, and makes the page writable. It passes other faults to the handler that was
- * installed earlier.
+ * mapping of the volume's file. By default all pages of the memory are read-only at first. The
+ * first store to a page raises SIGSEGV. The library's handler of this signal notes the store, and
+ * makes the page writable. The handler passes other faults to the handler that was installed
+ * earlier.
  *
- * A commit copies each page that was stored to. Both the page and the copy need memory of their
- * own. After the committed page is written to its place, the library can return this memory to the
- * system. The library does this when committed pages and their copies use more than `budget` bytes.
- * In layouts 5 and 6 the pages in the log aren't yet in their places. So committed pages and their
- * copies can exceed the budget by up to twice the log's length.
+ * A commit copies each page that was stored to. Both the page and the copy use memory. After the
+ * committed page is written to its place, the library can return this memory to the system. The
+ * library does this when committed pages and their copies use more than `budget` bytes. In layouts
+ * 5 and 6 the library keeps the memory of pages in the log. So committed pages and their copies can
+ * exceed the budget by up to twice the log's length.
  *
  * As with any mapped file, a load raises SIGBUS if the volume's file can't be read or was
- * truncated. In a forked process, pages may have the bytes of commits made after the fork. With
- * `resident` the call reads the whole file instead of mapping it. The call does the same if the
- * system's pages are larger than 4,096 bytes, or if the system can't map the volume's file. In
- * these three cases there is no SIGBUS, `budget` has no effect, and a forked process sees no later
+ * truncated. In a forked process, pages may have the bytes of commits made after the fork.
+ *
+ * In three cases the call reads the whole file instead of mapping it:
+ *
+ * - the option `resident` is set;
+ * - the system's pages are larger than 4,096 bytes;
+ * - the system can't map the volume's file.
+ *
+ * In these cases there is no SIGBUS, `budget` has no effect, and a forked process sees no later
  * commit.
  *
  * With FAMSYNC_TRACK_SIGNALS other threads may store during a commit. A commit contains exactly the
  * stores made before one moment within famsync_msync. This moment is the same for all threads, and
  * for all plain memory of the handle. At this moment the library makes all pages read-only again.
- * Then it copies the pages that were stored to. A store during the copying waits until the copying
- * ends, but not for the commit's writes and syncs. If stores of several threads must be committed
- * together, make them all while no commit is in progress.
+ * Then the library copies the pages that were stored to. A store during the copying waits until the
+ * copying ends. Stores through a pointer don't wait for the commit's writes and syncs. If several
+ * stores must be committed together, make them all while no commit is in progress.
  *
  * Some stores don't reach the library's handler:
  *
  * - A store by the kernel raises no signal. So read(2) and similar calls fail with EFAULT if they
  *   store to a read-only page.
  * - If a thread that blocks SIGSEGV stores to a read-only page, the system kills the process.
- * - If the program later installs another handler of SIGSEGV, the new handler gets the signals of
- *   stores to plain memory. The new handler should pass these signals to the previous handler.
+ * - If the program later installs another handler of SIGSEGV, the new handler gets the signals. The
+ *   new handler should pass the signals to the library's handler. The next famsync_memory_open
+ *   installs the library's handler again.
  *
- * In all three cases the program can make pages writable in advance with famsync_memory_touch. If
- * another handler has replaced the library's handler, the next famsync_memory_open installs the
- * library's handler again.
+ * In all three cases the program can make pages writable in advance with famsync_memory_touch.
  *
  * With FAMSYNC_TRACK_KERNEL there is no handler: the kernel tracks stores, including stores by
- * read(2) and similar calls. Each commit asks the kernel which pages were stored to. Other threads
- * must not store during famsync_msync, famsync_rollback and famsync_setlength. If another thread
- * stores while a commit copies pages, the commit repeats the copying. After four attempts
- * famsync_msync returns FAMSYNC_BUSY, and nothing is committed. When a commit ends, it may return
- * the memory of committed pages to the system (see `budget`). If another thread stores to these
- * pages at that time, the store may be lost. FAMSYNC_TRACKING, from famsync_open or
- * famsync_memory_open: the system can't track stores. FAMSYNC_TRACK_KERNEL needs Linux 6.7 or
- * later. FAMSYNC_ARGUMENT, from famsync_open: the options have both FAMSYNC_TRACK_KERNEL and
- * `resident`.
+ * read(2) and similar calls. FAMSYNC_TRACK_KERNEL needs Linux 6.7 or later. Other threads must not
+ * store during famsync_msync, famsync_rollback and famsync_setlength:
+ *
+ * - If another thread stores while a commit copies pages, the commit repeats the copying. After
+ *   four attempts famsync_msync returns FAMSYNC_BUSY, and nothing is committed.
+ * - When a commit ends, it may return the memory of committed pages to the system (see `budget`).
+ *   If another thread stores to these pages at that time, the store may be lost.
+ *
+ * FAMSYNC_TRACKING, from famsync_open or famsync_memory_open: the system can't track stores.
+ * FAMSYNC_ARGUMENT, from famsync_open: the options have both FAMSYNC_TRACK_KERNEL and `resident`.
  *
  * If the file ends within its last page, stores to the rest of this page are never committed. The
  * addresses after the last page, up to the file's capacity, are reserved: the program must not use
@@ -431,10 +436,12 @@ int famsync_backup(famsync *handle, int descriptor);
 int famsync_memory_open(famsync *handle, const char *file, famsync_memory **memory);
 
 /* Opens plain memory at a given address, so that the file can contain pointers into itself. A null
-   pointer means any address. The memory occupies the addresses for the file's whole capacity, the
-   page before them, and the page after them. FAMSYNC_ADDRESS: the address isn't a multiple of the
-   system's page size. Or the occupied addresses begin below 65,536, end above the highest possible
-   address, or contain other memory. */
+   pointer means any address. The memory occupies the addresses for the file's whole capacity, one
+   page before them, and one page after them. FAMSYNC_ADDRESS, in one of these cases:
+
+   - The address isn't a multiple of the system's page size.
+   - The occupied addresses begin below 65,536, or end above the highest possible address.
+   - Some of these addresses already have other memory. */
 int famsync_memory_open_at(famsync *handle, const char *file, void *address, famsync_memory **memory);
 
 /* famsync_memory_at returns the address of the memory. This address never changes.
@@ -442,20 +449,20 @@ int famsync_memory_open_at(famsync *handle, const char *file, void *address, fam
 void *famsync_memory_at(const famsync_memory *memory);
 size_t famsync_memory_length(const famsync_memory *memory);
 
-/* Returns the number of pages of 4,096 bytes that were stored to since the last commit. A page may
-   count even if its bytes didn't change. */
+/* Returns the number of pages that were stored to since the last commit. A page may count even if
+   its bytes didn't change. */
 size_t famsync_memory_dirty(const famsync_memory *memory);
 
 /* Makes all pages of a range writable, as a store to each page would. The range has `count` bytes,
-   and begins at `offset`. Until a thread calls famsync_msync or famsync_rollback, stores to these
-   pages raise no SIGSEGV, and the kernel can store to them. With FAMSYNC_TRACK_SIGNALS the pages
-   count as stored to. FAMSYNC_ARGUMENT: the range isn't within the file. FAMSYNC_NOFRAME: the range
-   has more pages than one commit can have. In both cases nothing changes. */
+   and begins at `offset`. Until the next famsync_msync or famsync_rollback, stores to these pages
+   raise no SIGSEGV, and the kernel can store to them. With FAMSYNC_TRACK_SIGNALS the pages count as
+   stored to. FAMSYNC_ARGUMENT: the range isn't within the file. FAMSYNC_NOFRAME: the range has more
+   pages than one commit can have. In both cases nothing changes. */
 int famsync_memory_touch(famsync_memory *memory, size_t offset, size_t count);
 
 /* Closes the memory. After the call begins, no thread may use the memory. Stores to the memory
-   since the last commit are lost. If famsync_msync failed after adding some of these stores to a
-   commit, closing makes later commits fail with FAMSYNC_TORN until a rollback succeeds. */
+   since the last commit are lost. If a failed famsync_msync has prepared some of these stores for a
+   commit, later commits fail with FAMSYNC_TORN until a rollback succeeds. */
 int famsync_memory_close(famsync_memory *memory);
 
 #ifdef __cplusplus

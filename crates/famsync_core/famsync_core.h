@@ -1,16 +1,17 @@
 /*
  * famsync_core (the core) is a library for programs that use volumes: disk files that contain
- * files. docs/CLAIMS.md lists what is proved about the library. The library makes no system call.
+ * files. docs/CLAIMS.md lists what is proved about the core. The core makes no system call.
  *
- * The program that uses the core is called the host. The host reads blocks of the volume, and
- * supplies them to the core. Pages passed to famsync_core_write wait in the core's memory for the
- * next commit. To make a commit durable, the core records calls for the host to make: writes and
- * syncs of the volume's file. The host makes these calls in order, and then reports to the core
- * that it made them. A waiting call is a recorded call that the host hasn't reported yet. The host
- * decides how to make a call. The core decides which bytes are written, and where.
+ * The program that uses the core is called the host. A block is 4,096 bytes of the volume's file. A
+ * page is 4,096 bytes of a file in the volume. The host reads blocks, and supplies them to the
+ * core. Pages passed to famsync_core_write wait in the core's memory for the next commit, which
+ * makes them durable, all or none.
  *
- * The program below writes the first page of the first file, and commits. `tests/lint/core_header`
- * compiles and runs the program.
+ * To make a commit durable, the core records calls for the host to make: writes and syncs of the
+ * volume's file. The host makes these calls in order, and then reports them to the core. A waiting
+ * call is a recorded call that the host hasn't reported yet.
+ *
+ * The program below writes the first page of the first file, and commits.
  *
  *   static void supply(famsync_core *core, int file, uint32_t block)
  *   {
@@ -44,7 +45,7 @@
  *           return 1;
  *       while (famsync_core_open(core, 0, &wanted, &core.at) == FAMSYNC_CORE_WANTED)
  *           supply(&core, file, wanted);
- *       make_calls(&core, file); // finishes commits that a crash left
+ *       make_calls(&core, file); // finishes commits after a crash
  *       while (famsync_core_read(core, 0, 0, page, 4096, &wanted, &core.at) == FAMSYNC_CORE_WANTED)
  *           supply(&core, file, wanted);
  *       memcpy(page, "hello", 5);
@@ -63,22 +64,25 @@
  *       return close(file);
  *   }
  *
- * A session with a volume begins with famsync_core_begin, and ends with famsync_core_close. The
- * session's handle, `core` in this header, has type famsync_core. Each function except
+ * A session with a volume begins with famsync_core_begin, and ends with famsync_core_close. In this
+ * header `core` is the session's handle, of type famsync_core. Each function except
  * famsync_core_begin takes `core` by value. Each function except famsync_core_close has `&core.at`
- * as its last argument, and sets `core.at` for the next function call. No function checks its
- * handle. `core.at` must have the value that the previous function call set. Don't use a handle
- * before famsync_core_begin succeeds, or after famsync_core_close. Only one function at a time may
- * use a handle. A pointer argument followed by `count` must point to `count` bytes. If `count` is
- * 0, the pointer may be any pointer except null. The bytes that famsync_core_call returns are valid
- * until a different function is called with the same handle.
+ * as its last argument, and sets `core.at` for the next function call.
+ *
+ * The host must obey these rules, which no function checks:
+ *
+ * - Keep in `core.at` the value that the previous function call set.
+ * - Use a handle only after famsync_core_begin succeeds, and before famsync_core_close.
+ * - Call only one function at a time with a handle.
+ * - For a pointer argument followed by `count`, pass a pointer to `count` bytes, never null.
+ * - Use the bytes that famsync_core_call returns only until you call another core function.
  *
  * The core allocates and frees memory through three functions that the host defines: rattle_alloc,
  * rattle_realloc and rattle_dealloc (below).
  *
- * A block is 4,096 bytes of the volume's file. A block is known if its bytes are in the core's
- * memory. The home block of a page is the page's place in the volume's file. To write a page home
- * means to write it to its home block. A commit is home once all its pages are written home.
+ * A block is known if its bytes are in the core's memory. Each page has a fixed block in the
+ * volume's file, called its home block. To write a page home means to write it to its home block. A
+ * commit is home once all its pages are written home.
  *
  * A result of type int64_t is a number (0 or more), or one of the negative codes. The comment of
  * each function lists its possible codes without the prefix FAMSYNC_CORE_.
@@ -109,8 +113,8 @@ enum famsync_core_code {
 
     FAMSYNC_CORE_ARGUMENT = -1, /* an argument is invalid */
     FAMSYNC_CORE_NOMEMORY = -2, /* out of memory */
-    FAMSYNC_CORE_ORDER = -3,    /* the volume isn't open yet; from famsync_core_open: it is already
-                                   open */
+    FAMSYNC_CORE_ORDER = -3,    /* the volume isn't open yet; from famsync_core_open: the volume is
+                                   already open */
 
     /* why a volume isn't opened */
     FAMSYNC_CORE_NOTAVOLUME = -11, /* block 0 doesn't begin with the magic of a layout
@@ -118,7 +122,7 @@ enum famsync_core_code {
     FAMSYNC_CORE_DAMAGED = -12,    /* block 0 begins with the magic of a layout, but the volume
                                       breaks a rule of the format */
 
-    /* why a function fails; these numbers, except OTHER's, are the same in clients/c/famsync.h */
+    /* why a function fails; clients/c/famsync.h has the same numbers, except for OTHER */
     FAMSYNC_CORE_NOFRAME = -27, /* the next commit would have too many pages */
     FAMSYNC_CORE_DEVICE = -28,  /* out of memory, so a call couldn't be recorded */
     FAMSYNC_CORE_BROKEN = -29,  /* DEVICE was returned earlier: close the session, and open the
@@ -126,8 +130,8 @@ enum famsync_core_code {
     FAMSYNC_CORE_EINVAL = -30,  /* the page begins at or past the file's end, or the new length is
                                    above the file's capacity */
     FAMSYNC_CORE_NOFILE = -34,  /* the volume has no such file */
-    FAMSYNC_CORE_BUSY = -35,    /* the session has made 2^32 - 1 commits, or the log's epochs or
-                                   commit numbers are used up (docs/FORMATS.md) */
+    FAMSYNC_CORE_BUSY = -35,    /* the session has made 2^32 - 1 commits, or the log has no epoch or
+                                   commit number left (docs/FORMATS.md) */
     FAMSYNC_CORE_OTHER = -38    /* other failures; no function of this header returns this code */
 };
 
@@ -141,14 +145,12 @@ enum famsync_core_kind { FAMSYNC_CORE_CALL_WRITE = 1, FAMSYNC_CORE_CALL_SYNC = 2
 int32_t famsync_core_begin(uint32_t blocks, uint8_t **at);
 
 /* Supplies a block that the host has read. `bytes` are the block's current 4,096 bytes in the
-   volume's file, after all recorded writes that the host has made. If the block is already known,
-   nothing changes. You may call this function at any time, also before the volume is open.
+   volume's file. If the block is already known, nothing changes. The volume need not be open yet.
 
    Codes: OK, ARGUMENT (no such block, or `count` isn't 4,096), NOMEMORY. */
 int32_t famsync_core_supply(famsync_core core, uint32_t block, const uint8_t *bytes, size_t count, uint8_t **at);
 
-/* Returns 1 if a block is known, and 0 otherwise. You may call this function at any time, also
-   before the volume is open. */
+/* Returns 1 if a block is known, and 0 otherwise. The volume need not be open yet. */
 int32_t famsync_core_is_known(famsync_core core, uint32_t block, uint8_t **at);
 
 /* Opens the volume, which may have any layout. `pages` limits the number of pages of a commit; 0
@@ -156,12 +158,12 @@ int32_t famsync_core_is_known(famsync_core core, uint32_t block, uint8_t **at);
    records calls. If commits aren't home, for example after a crash, some of these calls write these
    commits home.
 
-   Codes: OK, WANTED, NOTAVOLUME, DAMAGED, NOMEMORY, DEVICE, BUSY (the log's epochs are used up),
+   Codes: OK, WANTED, NOTAVOLUME, DAMAGED, NOMEMORY, DEVICE, BUSY (the log has no epoch left),
    ORDER. After NOMEMORY or DEVICE, close the session, and begin a new one.
 
    WANTED: the function needs a block that isn't known. The volume isn't open yet, and no call was
-   recorded. The function needs block 0 first. Then it may need these blocks (docs/FORMATS.md), one
-   at a time, not always in this order:
+   recorded. The function needs block 0 first. Then it may need these blocks (docs/FORMATS.md), in
+   any order:
 
    - layouts 1 to 4: the gates and the open journals;
    - layouts 5 and 6: the selector, the selected start, the log's commits, and blocks after these
@@ -178,7 +180,7 @@ int64_t famsync_core_frames(famsync_core core, uint8_t **at);
 int64_t famsync_core_head(famsync_core core, uint8_t **at);
 
 /* Returns 1 if writing a commit home can use the syncs of later commits, and 0 otherwise. The
-   result is 1 in layout 4, and in volumes with a log. Codes: ORDER. */
+   result is 1 in layouts 4 to 6. Codes: ORDER. */
 int32_t famsync_core_shares_syncs(famsync_core core, uint8_t **at);
 
 /* Sets `*length` to a file's current length in bytes, even if this length still waits for a commit.
@@ -191,15 +193,15 @@ int32_t famsync_core_file(famsync_core core, uint32_t file, uint64_t *length, ui
    than `count` bytes), ORDER. */
 int64_t famsync_core_file_name(famsync_core core, uint32_t file, uint8_t *name, size_t count, uint8_t **at);
 
-/* Reads a page (4,096 bytes) of a file into `bytes`. The page's bytes past the file's end are 0.
-   Pages are numbered from 0.
+/* Reads a page of a file into `bytes`. The page's bytes past the file's end are 0. Pages are
+   numbered from 0.
 
    Codes: OK, WANTED, ARGUMENT (`count` isn't 4,096), NOFILE, EINVAL, ORDER. */
 int32_t famsync_core_read(famsync_core core, uint32_t file, uint64_t page, uint8_t *bytes, size_t count,
                           uint32_t *wanted, uint8_t **at);
 
-/* Writes a whole page of a file. The page waits in memory for the next commit. The page's bytes
-   past the file's end become 0. If the function fails, nothing changes.
+/* Writes a whole page of a file. The page waits for the next commit. The page's bytes past the
+   file's end become 0. If the function fails, nothing changes.
 
    Codes: OK, ARGUMENT (`count` isn't 4,096), NOFILE, EINVAL, BROKEN, NOFRAME, NOMEMORY, ORDER. */
 int32_t famsync_core_write(famsync_core core, uint32_t file, uint64_t page, const uint8_t *bytes, size_t count,
@@ -211,9 +213,9 @@ int64_t famsync_core_staged(famsync_core core, uint8_t **at);
 int32_t famsync_core_is_staged(famsync_core core, uint32_t file, uint64_t page, uint8_t **at);
 
 /* Commits all waiting pages and lengths. Records the calls that make this commit durable. May also
-   record calls that write earlier commits home. If no page or length waits, no call is recorded for
-   this commit. Sets `*mark` to the commit's number. Each session numbers its commits from 1. The
-   commit is durable once famsync_core_acknowledged returns this number or a higher number.
+   record calls that write earlier commits home. If no page or length waits, the function records no
+   call for this commit. Sets `*mark` to the commit's number. Each session numbers its commits from
+   1. The commit is durable once famsync_core_acknowledged returns at least `*mark`.
 
    Codes: OK, WANTED, NOMEMORY (call this function again), BROKEN, DEVICE, BUSY, ORDER.
 
@@ -225,9 +227,8 @@ int32_t famsync_core_commit(famsync_core core, uint32_t *mark, uint32_t *wanted,
 
 /* Returns the number of the last acknowledged commit, or 0 if no commit is acknowledged. A commit
    is acknowledged once the host has reported all calls that waited when famsync_core_commit
-   returned OK for this commit. Calls recorded later may still wait. Exception: if commit n + 1 is
-   made before commit n is acknowledged, commit n is acknowledged only together with commit n + 1.
-   An acknowledged commit is durable. Codes: ORDER. */
+   returned OK for this commit. Exception: if commit n + 1 is made before commit n is acknowledged,
+   both commits are acknowledged together. An acknowledged commit is durable. Codes: ORDER. */
 int64_t famsync_core_acknowledged(famsync_core core, uint8_t **at);
 
 /* Records calls that write commits home. Makes at most `most` steps of this work.
@@ -239,9 +240,9 @@ int64_t famsync_core_acknowledged(famsync_core core, uint8_t **at);
    steps are kept. */
 int32_t famsync_core_write_out(famsync_core core, uint32_t most, uint32_t *wanted, uint8_t **at);
 
-/* Counts all blocks of each commit that needs further steps of famsync_core_write_out, and returns
-   the sum. A block in two of these commits counts twice. For a volume with a log, returns `*used`
-   of famsync_core_log instead. Codes: ORDER. */
+/* Returns the number of blocks of all commits that need further steps of famsync_core_write_out. A
+   block in two of these commits counts twice. For a volume with a log, returns `*used` of
+   famsync_core_log instead. Codes: ORDER. */
 int64_t famsync_core_unwritten(famsync_core core, uint8_t **at);
 
 /* For a volume with a log, sets three numbers:
@@ -263,8 +264,7 @@ int32_t famsync_core_log(famsync_core core, uint64_t *blocks, uint64_t *used, ui
    volume has layout 1 or 2), BROKEN, NOFRAME, NOMEMORY, ORDER. */
 int32_t famsync_core_set_length(famsync_core core, uint32_t file, uint64_t length, uint32_t *wanted, uint8_t **at);
 
-/* Returns the number of waiting calls. You may call this function at any time, also before the
-   volume is open. */
+/* Returns the number of waiting calls. The volume need not be open yet. */
 int64_t famsync_core_waiting(famsync_core core, uint8_t **at);
 
 /* Describes the waiting call that has index `index`. The oldest waiting call has index 0. The host
@@ -274,33 +274,36 @@ int64_t famsync_core_waiting(famsync_core core, uint8_t **at);
      `*offset`.
    - FAMSYNC_CORE_CALL_SYNC: sync the volume's file.
 
-   Codes: OK, NONE (no call with this index waits). You may call this function at any time, also
-   before the volume is open. */
+   Codes: OK, NONE (no call with this index waits). The volume need not be open yet. */
 int32_t famsync_core_call(famsync_core core, uint32_t index, uint32_t *kind, uint64_t *offset, const uint8_t **bytes,
                           uint64_t *length, uint8_t **at);
 
-/* Reports that the host has made the `count` oldest waiting calls, in order and successfully.
-   Codes: OK, ARGUMENT (fewer than `count` calls wait; nothing changes). You may call this function
-   at any time, also before the volume is open. */
+/* Reports that the host has made the `count` oldest waiting calls, in order and successfully. The
+   volume need not be open yet. Codes: OK, ARGUMENT (fewer than `count` calls wait; nothing
+   changes). */
 int32_t famsync_core_carried_out(famsync_core core, uint32_t count, uint8_t **at);
 
 /* Forgets a block: the block isn't known any more. A later function call that needs this block
-   returns WANTED. A block is kept if a waiting call writes to this block. Once the volume is open,
-   all non-log blocks before the first file are also kept. Codes: OK, NONE (the block is kept),
-   ARGUMENT (no such block). You may call this function at any time, also before the volume is
-   open. */
+   returns WANTED. The volume need not be open yet. These blocks are kept:
+
+   - each block to which a waiting call writes;
+   - once the volume is open, all blocks before the first file, except the log's blocks.
+
+   Codes: OK, NONE (the block is kept), ARGUMENT (no such block). */
 int32_t famsync_core_forget(famsync_core core, uint32_t block, uint8_t **at);
 
-/* Frees the session, and drops its waiting calls. You may call this function at any time, also
-   before the volume is open. Call it only once for each handle. */
+/* Frees the session, and drops its waiting calls. The volume need not be open yet. Call this
+   function only once for each handle. */
 void famsync_core_close(famsync_core core);
 
-/* The host defines these three functions. They call one allocator's malloc, realloc and free,
-   respectively. rattle_alloc and rattle_realloc return `ok` and `p`. If the allocator returns
-   memory, `ok` is true, and `p` points to this memory. Otherwise `ok` is false, and `p` points to
-   any byte of the program. `p` must never be null. `align` is the required alignment, at most 16.
-   rattle_realloc keeps the first `kept` bytes of the memory at `old`. If rattle_realloc fails, this
-   memory doesn't change. If `size` is 0, request at least one byte from the allocator. */
+/* The host defines these three functions. They must call one allocator's malloc, realloc and free.
+
+   - `ok`, `p`: on success `ok` is true, and `p` points to the memory. On failure `ok` is false, and
+     `p` points to any byte of the program. `p` must never be null.
+   - `align`: the required alignment, at most 16.
+   - `kept`: rattle_realloc keeps the first `kept` bytes of the memory at `old`. If rattle_realloc
+     fails, this memory doesn't change.
+   - `size`: if `size` is 0, request at least one byte from the allocator. */
 struct rattle_tried {
     bool ok;
     uint8_t *p;
