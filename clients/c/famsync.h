@@ -10,8 +10,8 @@
  *
  * A program can access the bytes of a file in two ways:
  *
- *   read and write   famsync_read, famsync_write, famsync_msync: any offset and count in the file,
- *                    as with pread and pwrite
+ *   read and write   famsync_read, famsync_write, famsync_msync: any range of the file's bytes, as
+ *                    with pread and pwrite
  *   plain memory     famsync_memory_open, famsync_memory_at, famsync_msync: loads and stores
  *                    through a pointer
  *
@@ -37,7 +37,7 @@
  *   - famsync_close returns FAMSYNC_OK, but does nothing. The copied handle uses memory until the
  *     forked process ends or calls exec.
  *   - famsync_memory_close returns FAMSYNC_OK, and frees the copied memory.
- *   - Other calls with these copies fail with FAMSYNC_FORKED if they return an int.
+ *   - Other calls that take such a copy and return an int fail with FAMSYNC_FORKED.
  *
  * A child of vfork must not call the library. The child's stores to plain memory count as stores of
  * the parent.
@@ -68,7 +68,8 @@ enum famsync_code {
     FAMSYNC_NOMEMORY = -2, /* memory couldn't be allocated */
     FAMSYNC_SYSTEM = -3,   /* a system call failed, and errno has the cause; EPROTO means a bug in
                               the library */
-    FAMSYNC_INUSE = -6,    /* another session or a backup has locked the file */
+    FAMSYNC_INUSE = -6,    /* another session has locked the file, or a backup is being written to
+                              it */
     FAMSYNC_SUSPECT = -7,  /* An earlier sync failed, so the volume is flagged as suspect
                               (see famsync_msync and the option `trust`). */
     FAMSYNC_FORKED = -11,  /* a forked process used its copy of the handle */
@@ -78,8 +79,8 @@ enum famsync_code {
 
     /* why a volume isn't opened */
     FAMSYNC_NOTREGULAR = -13, /* the path names a folder, a device, a pipe or a socket */
-    FAMSYNC_NAMES = -14,      /* The file has several names (hard links). Another process could use
-                                 the file under another name. */
+    FAMSYNC_NAMES = -14,      /* the file has several names (hard links), so another process could
+                                 use it under another name */
     FAMSYNC_REPLACED = -15,   /* Other programs replaced the file while the library was opening
                                  it. */
     FAMSYNC_NOTAVOLUME = -16, /* the file doesn't begin like a volume */
@@ -96,12 +97,13 @@ enum famsync_code {
     FAMSYNC_OVERLAP = -33, /* plain memory of the file is already open */
     FAMSYNC_NOFILE = -34,  /* the volume has no such file */
     FAMSYNC_BUSY = -35,    /* From famsync_backup: another backup is being made. From
-                              famsync_msync: the session has made 2^32 - 1 commits. Or a thread
+                              famsync_msync: the session has made 2^32 - 1 commits, or a thread
                               stored to plain memory during the commit (only with
                               FAMSYNC_TRACK_KERNEL). */
 
     /* the suspect flag (see famsync_msync), and sessions that only read */
-    FAMSYNC_UNMARKED = -39,     /* a sync failed, and the library couldn't make the suspect flag */
+    FAMSYNC_UNMARKED = -39,     /* a sync failed, and the library couldn't make the suspect flag
+                                   durable */
     FAMSYNC_NEEDSOPENING = -40, /* the volume must first be opened once without the option
                                    `readonly` (see famsync_open) */
     FAMSYNC_READONLY = -41,     /* the session only reads */
@@ -136,13 +138,13 @@ struct famsync_options {
     unsigned wait_ms;    /* how many milliseconds to wait for a volume that is in use */
     int readonly;        /* not 0: the session only reads */
     int resident;        /* not 0: famsync_memory_open reads the whole file instead of mapping it */
-    size_t budget;       /* how many bytes committed pages of plain memory and their copies may use
-                            (see famsync_memory_open); 0 means 64 MB */
+    size_t budget;       /* the most bytes that committed pages of plain memory and their copies may
+                            use (see famsync_memory_open); 0 means 64 MB */
     int tracking;        /* FAMSYNC_TRACK_SIGNALS or FAMSYNC_TRACK_KERNEL; see
                             famsync_memory_open */
 };
 
-/* How the library notices stores to plain memory: by a handler of SIGSEGV, or by the kernel. */
+/* What tracks stores to plain memory: the library's handler of SIGSEGV, or the kernel. */
 enum famsync_tracking { FAMSYNC_TRACK_SIGNALS = 0, FAMSYNC_TRACK_KERNEL = 1 };
 
 /* Returns the version of the library that this program runs with. */
@@ -183,7 +185,7 @@ struct famsync_plan {
 
 /* Makes a volume in a new file with the path `volume` (below: VOLUME). The files in the volume
    contain zeros. When the call succeeds, the volume is durable. If the call fails or the process is
-   killed, the new file VOLUME is either complete or doesn't exist. If the system lacks unnamed
+   killed, the new file VOLUME either is complete or doesn't exist. If the system lacks unnamed
    files (O_TMPFILE) or /proc, the library makes the volume in VOLUME.new. Afterwards the library
    renames VOLUME.new to VOLUME. VOLUME.new may remain if the process is killed or the system
    crashes.
@@ -192,9 +194,9 @@ struct famsync_plan {
 
    - Layouts 1 and 2: `slots`.
    - Layouts 3 and 4: `slots` - 1.
-   - Layouts 5 and 6: 16,366 if the log has 16,384 blocks. The log must have room for the pages, a
-     list of the pages, a block with the files' lengths, and one free block.
-   - All layouts: 65,534.
+   - Layouts 5 and 6: 65,534, or fewer if the log is short. The log must have room for the pages, a
+     list of the pages, a block with the files' lengths, and one free block. So a log of 16,384
+     blocks allows 16,366 pages.
 
    Without `preallocate`, a full disk makes the library's first write to a block fail. This failure
    ends the session (FAMSYNC_DEVICE).
@@ -210,7 +212,8 @@ int famsync_format(const char *volume, const struct famsync_plan *plan);
    the path is a symbolic link, the library opens the link's target. The file is locked until the
    session ends. On failure `*handle` is set to a null pointer.
 
-   FAMSYNC_INUSE: another session or backup still locks the file after `wait_ms` milliseconds.
+   FAMSYNC_INUSE: after `wait_ms` milliseconds another session, or a backup to this file, still
+   locks it.
    FAMSYNC_SYSTEM with ENAMETOOLONG: the file's name has more than 247 bytes.
 
    With the option `readonly`:
@@ -302,18 +305,19 @@ int famsync_write(famsync *handle, unsigned file, uint64_t offset, const void *b
    couldn't make this flag durable. So the next session might not notice the failed sync.
 
    After a commit is acknowledged, the library writes the commit's pages to their places. A thread
-   of the library does this while no call is in progress. A later call writes the remaining pages.
-   In layouts 4 to 6 the thread begins to write after 10 ms without a commit. In layouts 5 and 6 the
-   thread also begins when half of the log is in use. With `foreground` there is no such thread. */
+   of the library does this while no call is in progress. Later calls, at the latest famsync_close,
+   write the remaining pages. In layouts 4 to 6 the thread begins to write after 10 ms without a
+   commit. In layouts 5 and 6 the thread also begins when half of the log is in use. With
+   `foreground` there is no such thread. */
 int famsync_msync(famsync *handle, uint64_t *mark);
 
 /* Undoes all changes of this session since the last commit: writes, stores to plain memory, and
    lengths. Other threads may store during the call, except with FAMSYNC_TRACK_KERNEL. The call
-   undoes exactly the stores before one moment within the call. If a new length of a file is undone,
-   plain memory of this file grows or shrinks in place, as with famsync_setlength.
+   undoes the stores before one moment within the call, and no later stores. If a new length of a
+   file is undone, plain memory of this file grows or shrinks in place, as with famsync_setlength.
 
    The call may first write committed pages to their places. If a write or a new length waits for a
-   commit, the call needs as much memory as another session.
+   commit, the call needs as much additional memory as a second session.
 
    FAMSYNC_DEVICE or FAMSYNC_UNMARKED: a read, a write or a sync failed. After a failed read the
    session continues. After a failed write or sync the session is over (see famsync_msync).
@@ -341,8 +345,8 @@ struct famsync_stat {
     uint64_t commits;       /* the number of the last acknowledged commit */
     uint64_t frames;        /* the most pages that one commit can have */
     uint64_t staged;        /* pages that wait for a commit, including pages of plain memory */
-    uint64_t unwritten;     /* Layouts 1 to 4: all blocks of commits whose pages aren't all in
-                               their places yet. A block in two of these commits counts twice.
+    uint64_t unwritten;     /* Layouts 1 to 4: all blocks of each commit whose writes and syncs
+                               aren't finished. A block in two of these commits counts twice.
                                Layouts 5 and 6: blocks of the log that are in use. */
     uint64_t reads;         /* reads of the volume's file */
     uint64_t writes;        /* writes to the volume's file */
@@ -384,8 +388,8 @@ int famsync_backup(famsync *handle, int descriptor);
  * A commit copies each page that was stored to. Both the page and the copy use memory. After the
  * committed page is written to its place, the library can return this memory to the system. The
  * library does this when committed pages and their copies use more than `budget` bytes. In layouts
- * 5 and 6 the library keeps the memory of pages in the log. So committed pages and their copies can
- * exceed the budget by up to twice the log's length.
+ * 5 and 6 the library keeps the memory of each page whose commit is still in the log. So committed
+ * pages and their copies can exceed the budget by up to twice the log's length.
  *
  * As with any mapped file, a load raises SIGBUS if the volume's file can't be read or was
  * truncated. In a forked process, pages may have the bytes of commits made after the fork.
@@ -399,12 +403,13 @@ int famsync_backup(famsync *handle, int descriptor);
  * In these cases there is no SIGBUS, `budget` has no effect, and a forked process sees no later
  * commit.
  *
- * With FAMSYNC_TRACK_SIGNALS other threads may store during a commit. A commit contains exactly the
- * stores made before one moment within famsync_msync. This moment is the same for all threads, and
- * for all plain memory of the handle. At this moment the library makes all pages read-only again.
- * Then the library copies the pages that were stored to. A store during the copying waits until the
- * copying ends. Stores through a pointer don't wait for the commit's writes and syncs. If several
- * stores must be committed together, make them all while no commit is in progress.
+ * With FAMSYNC_TRACK_SIGNALS other threads may store during a commit. A commit contains the stores
+ * made before one moment within famsync_msync, and no later stores. This moment is the same for all
+ * threads, and for all plain memory of the handle. At this moment the library makes all pages
+ * read-only again. Then the library copies the pages that were stored to. A store during the
+ * copying waits until the copying ends. Stores through a pointer don't wait for the commit's writes
+ * and syncs. If several stores must be committed together, make them all while no commit is in
+ * progress.
  *
  * Some stores don't reach the library's handler:
  *
@@ -419,12 +424,13 @@ int famsync_backup(famsync *handle, int descriptor);
  *
  * With FAMSYNC_TRACK_KERNEL there is no handler: the kernel tracks stores, including stores by
  * read(2) and similar calls. FAMSYNC_TRACK_KERNEL needs Linux 6.7 or later. Other threads must not
- * store during famsync_msync, famsync_rollback and famsync_setlength:
+ * store during famsync_msync, famsync_rollback and famsync_setlength. Such stores can make a commit
+ * fail, or be lost:
  *
  * - If another thread stores while a commit copies pages, the commit repeats the copying. After
  *   four attempts famsync_msync returns FAMSYNC_BUSY, and nothing is committed.
- * - When a commit ends, it may return the memory of committed pages to the system (see `budget`).
- *   If another thread stores to these pages at that time, the store may be lost.
+ * - At the end of a commit the library may return the memory of committed pages to the system (see
+ *   `budget`). If another thread stores to these pages at that time, the store may be lost.
  *
  * FAMSYNC_TRACKING, from famsync_open or famsync_memory_open: the system can't track stores.
  * FAMSYNC_ARGUMENT, from famsync_open: the options have both FAMSYNC_TRACK_KERNEL and `resident`.
