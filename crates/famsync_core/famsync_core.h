@@ -1,11 +1,12 @@
 /*
- * famsync_core (the core) is a library for programs that use volumes: disk files that contain
- * files. docs/CLAIMS.md lists what is proved about the core. The core makes no system call.
+ * famsync_core (the core) is a library for programs that use volumes. A volume is one disk file
+ * (the volume's file), and contains files. docs/CLAIMS.md lists what is proved about the core. The
+ * core makes no system call.
  *
- * The program that uses the core is called the host. A block is 4,096 bytes of the volume's file. A
- * page is 4,096 bytes of a file in the volume. The host reads blocks, and supplies them to the
- * core. Pages passed to famsync_core_write wait in the core's memory for the next commit, which
- * makes them durable, all or none.
+ * The program that uses the core is called the host. Block n of the volume's file is the 4,096
+ * bytes at offset 4,096 * n. A page is 4,096 bytes of a file in the volume. The host reads blocks,
+ * and supplies them to the core. Pages that the host passes to famsync_core_write wait in the
+ * core's memory. The next commit makes them durable, all or none.
  *
  * To make a commit durable, the core records calls for the host to make: writes and syncs of the
  * volume's file. The host makes these calls in order, and then reports them to the core. A waiting
@@ -64,18 +65,18 @@
  *       return close(file);
  *   }
  *
- * A session with a volume begins with famsync_core_begin, and ends with famsync_core_close. In this
- * header `core` is the session's handle, of type famsync_core. Each function except
- * famsync_core_begin takes `core` by value. Each function except famsync_core_close has `&core.at`
- * as its last argument, and sets `core.at` for the next function call.
+ * A session with a volume begins with famsync_core_begin, and ends with famsync_core_close. Below,
+ * `core` is the session's handle, of type famsync_core. Each core function except
+ * famsync_core_begin takes `core` by value. Each core function except famsync_core_close takes
+ * `&core.at` as its last argument (`at`), and sets `core.at` for the next function call.
  *
  * The host must obey these rules, which no function checks:
  *
  * - Keep in `core.at` the value that the previous function call set.
  * - Use a handle only after famsync_core_begin succeeds, and before famsync_core_close.
  * - Call only one function at a time with a handle.
- * - For a pointer argument followed by `count`, pass a pointer to `count` bytes, never null.
- * - Use the bytes that famsync_core_call returns only until you call another core function.
+ * - If an argument `count` follows a pointer argument, pass a non-null pointer to `count` bytes.
+ * - Use `*bytes` of famsync_core_call only until you call a different core function.
  *
  * The core allocates and frees memory through three functions that the host defines: rattle_alloc,
  * rattle_realloc and rattle_dealloc (below).
@@ -108,7 +109,7 @@ enum famsync_core_code {
     FAMSYNC_CORE_WANTED = 1, /* The function needs the block `*wanted`. Supply the block, and call
                                 the function again. */
     FAMSYNC_CORE_NONE = 2,   /* From famsync_core_call: no waiting call has index `index`. From
-                                famsync_core_write_out: no work remains. From famsync_core_log: the
+                                famsync_core_write_out: no step remains. From famsync_core_log: the
                                 volume has no log. From famsync_core_forget: the block is kept. */
 
     FAMSYNC_CORE_ARGUMENT = -1, /* an argument is invalid */
@@ -120,13 +121,14 @@ enum famsync_core_code {
     FAMSYNC_CORE_NOTAVOLUME = -11, /* block 0 doesn't begin with the magic of a layout
                                       (docs/FORMATS.md) */
     FAMSYNC_CORE_DAMAGED = -12,    /* block 0 begins with the magic of a layout, but the volume
-                                      breaks a rule of the format */
+                                      breaks a rule of this layout */
 
-    /* why a function fails; clients/c/famsync.h has the same numbers, except for OTHER */
+    /* why a function fails; these codes, except OTHER, have the same numbers in
+       clients/c/famsync.h */
     FAMSYNC_CORE_NOFRAME = -27, /* the next commit would have too many pages */
     FAMSYNC_CORE_DEVICE = -28,  /* out of memory, so a call couldn't be recorded */
-    FAMSYNC_CORE_BROKEN = -29,  /* DEVICE was returned earlier: close the session, and open the
-                                   volume again */
+    FAMSYNC_CORE_BROKEN = -29,  /* a function returned DEVICE earlier: close the session, and
+                                   begin a new one */
     FAMSYNC_CORE_EINVAL = -30,  /* the page begins at or past the file's end, or the new length is
                                    above the file's capacity */
     FAMSYNC_CORE_NOFILE = -34,  /* the volume has no such file */
@@ -138,8 +140,8 @@ enum famsync_core_code {
 /* The kinds of recorded calls. */
 enum famsync_core_kind { FAMSYNC_CORE_CALL_WRITE = 1, FAMSYNC_CORE_CALL_SYNC = 2 };
 
-/* Begins a session with a volume. `blocks` is the length of the volume's file divided by 4,096,
-   rounded down. If the function fails, `*at` is unchanged.
+/* Begins a session with a volume. `blocks` is the number of whole blocks of the volume's file. If
+   the function fails, `*at` is unchanged.
 
    Codes: OK, ARGUMENT (`blocks` is 0), NOMEMORY. */
 int32_t famsync_core_begin(uint32_t blocks, uint8_t **at);
@@ -179,7 +181,7 @@ int64_t famsync_core_files(famsync_core core, uint8_t **at);
 int64_t famsync_core_frames(famsync_core core, uint8_t **at);
 int64_t famsync_core_head(famsync_core core, uint8_t **at);
 
-/* Returns 1 if writing a commit home can use the syncs of later commits, and 0 otherwise. The
+/* Returns 1 if the syncs of later commits can serve to write a commit home, and 0 otherwise. The
    result is 1 in layouts 4 to 6. Codes: ORDER. */
 int32_t famsync_core_shares_syncs(famsync_core core, uint8_t **at);
 
@@ -212,23 +214,25 @@ int32_t famsync_core_write(famsync_core core, uint32_t file, uint64_t page, cons
 int64_t famsync_core_staged(famsync_core core, uint8_t **at);
 int32_t famsync_core_is_staged(famsync_core core, uint32_t file, uint64_t page, uint8_t **at);
 
-/* Commits all waiting pages and lengths. Records the calls that make this commit durable. May also
-   record calls that write earlier commits home. If no page or length waits, the function records no
-   call for this commit. Sets `*mark` to the commit's number. Each session numbers its commits from
-   1. The commit is durable once famsync_core_acknowledged returns at least `*mark`.
+/* Commits all waiting pages and lengths (see famsync_core_set_length). Records the calls that make
+   this commit durable. May also record calls that write earlier commits home. If no page or length
+   waits, the function records no call for this commit. Sets `*mark` to the commit's number. Each
+   session numbers its commits from 1. The commit is durable once famsync_core_acknowledged returns
+   at least `*mark`.
 
    Codes: OK, WANTED, NOMEMORY (call this function again), BROKEN, DEVICE, BUSY, ORDER.
 
-   WANTED and NOMEMORY are returned only for volumes with a log. If the log has no room for the
-   commit, the function first makes steps that write earlier commits home (see
-   famsync_core_write_out). A step or the commit may need a block that isn't known. After WANTED or
-   NOMEMORY, finished steps are kept, and the pages and lengths still wait. */
+   WANTED and NOMEMORY occur only for volumes with a log (layouts 5 and 6). If the log has no room
+   for the commit, the function first makes steps of famsync_core_write_out. A step or the commit
+   may need a block that isn't known. After WANTED or NOMEMORY, calls of finished steps stay
+   recorded, and the pages and lengths still wait. */
 int32_t famsync_core_commit(famsync_core core, uint32_t *mark, uint32_t *wanted, uint8_t **at);
 
 /* Returns the number of the last acknowledged commit, or 0 if no commit is acknowledged. A commit
    is acknowledged once the host has reported all calls that waited when famsync_core_commit
    returned OK for this commit. Exception: if commit n + 1 is made before commit n is acknowledged,
-   both commits are acknowledged together. An acknowledged commit is durable. Codes: ORDER. */
+   commit n is acknowledged only with commit n + 1. An acknowledged commit is durable. Codes:
+   ORDER. */
 int64_t famsync_core_acknowledged(famsync_core core, uint8_t **at);
 
 /* Records calls that write commits home. Makes at most `most` steps of this work.
@@ -236,11 +240,11 @@ int64_t famsync_core_acknowledged(famsync_core core, uint8_t **at);
    Codes: OK (steps remain), NONE (no step remains), WANTED, NOMEMORY (call this function again),
    BROKEN, DEVICE, ORDER.
 
-   WANTED and NOMEMORY are returned only for volumes with a log. After WANTED or NOMEMORY, finished
-   steps are kept. */
+   WANTED and NOMEMORY occur only for volumes with a log. After WANTED or NOMEMORY, calls of
+   finished steps stay recorded. */
 int32_t famsync_core_write_out(famsync_core core, uint32_t most, uint32_t *wanted, uint8_t **at);
 
-/* Returns the number of blocks of all commits that need further steps of famsync_core_write_out. A
+/* Returns the number of blocks in the commits for which famsync_core_write_out has further steps. A
    block in two of these commits counts twice. For a volume with a log, returns `*used` of
    famsync_core_log instead. Codes: ORDER. */
 int64_t famsync_core_unwritten(famsync_core core, uint8_t **at);
@@ -256,9 +260,9 @@ int64_t famsync_core_unwritten(famsync_core core, uint8_t **at);
 int32_t famsync_core_log(famsync_core core, uint64_t *blocks, uint64_t *used, uint64_t *commits, uint8_t **at);
 
 /* Sets the length of a file in bytes. The greatest length is the file's capacity (docs/FORMATS.md).
-   The length becomes durable with the next commit. If the file grows, the added pages wait for the
-   next commit, like written pages. If the growth begins inside a page, this page waits, too. If the
-   function fails, nothing changes.
+   The new length waits for the next commit. If the file grows, the added pages also wait, like
+   written pages. If the growth begins inside a page, this page waits, too. If the function fails,
+   nothing changes.
 
    Codes: OK, WANTED (the block with the file's old end isn't known), NOFILE, EINVAL (also if the
    volume has layout 1 or 2), BROKEN, NOFRAME, NOMEMORY, ORDER. */
