@@ -313,7 +313,7 @@ int famsync_msync(famsync *handle, uint64_t *mark);
 
 /* Undoes all changes of this session since the last commit: writes, stores to plain memory, and
    lengths. Other threads may store during the call, except with FAMSYNC_TRACK_KERNEL. The call
-   undoes the stores before one moment within the call, and no later stores. If a new length of a
+   undoes all stores that threads made before one moment within the call. Later stores remain. If a new length of a
    file is undone, plain memory of this file grows or shrinks in place, as with famsync_setlength.
 
    The call may first write committed pages to their places. If a write or a new length waits for a

@@ -34,7 +34,7 @@ over_device pager device = record pager { device = device }
 abbrev pub made_calls : Deferred → ℕ
 made_calls disk = recorded_calls disk - disk.waiting
 
--- Rule: deferred acknowledgement: A core's mark is acknowledged once its host has made the calls that its commit
+-- Rule: deferred acknowledgement: The core acknowledges a mark once the host has made the calls that the mark's commit
 -- recorded.
 -- The mark that is acknowledged after the host made `made` device calls: `committed` if its commit needs no more than
 -- these, and otherwise `before`.

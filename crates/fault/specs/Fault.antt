@@ -31,13 +31,13 @@ place_of_fault spaces pcid va write =
 abbrev pub is_in_memory : FramesState → FilePage → Bool
 is_in_memory memory owner = list_any (is_of_page owner) memory.frames
 
--- Rule: frozen page: A frozen page is copied before a store changes it, so that its record contains the bytes at the
+-- Rule: frozen page: A frozen page is copied before a store changes it. So the page's record contains the bytes at the
 -- mark.
 -- Whether a fault copies the page out: it is a fault of a store, and the page is held.
 abbrev pub copies_out : FramesState → CheckpointState → FilePage → Bool → Bool
 copies_out memory c owner write = write && is_held memory c owner
 
--- Rule: busadrerr: A page isn't served if it begins at or past the end of its file.
+-- Rule: busadrerr: A fault isn't served if its page begins at or past the file's end.
 -- Why a fault at a place isn't served, if the file has `length` bytes. The reasons are checked in this order:
 -- - The page begins at or past the file's end.
 -- - The fault is a store, the page is held, and no copy frame is free.
@@ -52,7 +52,7 @@ fault_refusal memory c broken place length write =
     else (if not (has_free memory.frames) then Some refusals.NoFrame
     else (if broken then Some refusals.Device else None))))
 
--- Rule: free frame: A page gets any free frame, and `noframe` is answered only if no frame is free.
+-- Rule: free frame: A page gets any free frame. The answer is `noframe` only if no frame is free.
 -- The frames after a page is brought into `frame`. Either `frame` already contained the page, or it was free and gets
 -- the page with these bytes.
 abbrev pub Brings : FramesState → FilePage → List ℕ → ℕ → FramesState → Type 0

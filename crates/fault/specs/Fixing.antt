@@ -17,8 +17,8 @@ use Rattle.fault.specs.Fault.{is_in_memory, fault_refusal, FaultServed}
 abbrev pub block_from : List ℕ → ℕ → List ℕ
 block_from disk home = take 4096 (drop home disk)
 
--- Rule: zeros past the end: A page that is read from the device gets zeros past its file's end, even if the disk has
--- other bytes there.
+-- Rule: zeros past the end: When a page is read from the device, its bytes past the file's end become zeros, even if
+-- the device has other bytes there.
 -- The page's bytes up to the file's end, then zeros. `length_of` is the file's length.
 abbrev pub cut_to_length : ℕ → ℕ → List ℕ → List ℕ
 cut_to_length length_of page bytes =

@@ -16,7 +16,7 @@ LeftBefore v old new (Some Opening) c = Recovers v old c
 LeftBefore v old new (Some Committing) c = Recovers v old c ⊎ Recovers v new c
 LeftBefore v old new stage c = Recovers v new c
 
--- Rule: torn gate: A torn gate is either open or closed, so a crash leaves all of a commit or nothing.
+-- Rule: torn gate: A gate whose write is torn is either open or closed. So a crash leaves all of a commit, or nothing.
 -- What a crash may leave within the step of this stage, or after the step if a device call failed.
 abbrev pub LeftWithin : SuperValue → (ℕ → List ℕ) → (ℕ → List ℕ) → Option Stage → List ℕ → Type 0
 LeftWithin v old new (Some Opening) c = Recovers v old c ⊎ Recovers v new c

@@ -116,7 +116,7 @@ outs_record outs = if outs.broken then None else option_and_then next_record (ou
 abbrev pub outs_home : WriteOutsValue → Option ℕ
 outs_home outs = if outs.broken then None else option_and_then next_home (outs_moving outs)
 
--- Rule: busy: No further commit begins while one isn't committed yet, or while each journal is in use.
+-- Rule: busy: A commit can't begin while the previous one isn't committed, or while all journals are in use.
 -- No further batch may begin: one isn't committed, or each journal has a batch.
 abbrev pub is_busy : WriteOutsValue → Bool
 is_busy outs = has_uncommitted outs.batches || length outs.batches == journals_of outs.geometry.layout

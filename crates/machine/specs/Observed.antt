@@ -93,7 +93,8 @@ abbrev pub resized_at : Observed → Option Pending → List Event
 resized_at observed (Some (Resizing file to)) = SetLength file (length_observed observed file) to ∷ []
 resized_at observed pending = []
 
--- Rule: empty mark: A mark before which nothing was stored and no length changed is acknowledged at once.
+-- Rule: empty mark: If nothing was stored and no length changed since the previous mark, a new mark is acknowledged at
+-- once.
 -- The events that an act of processor `p` and its reply add to the history. A mark is acknowledged at once if nothing
 -- was stored and no length was changed since the mark before it.
 abbrev pub events_of : Observed → ℕ → Act → Reply → List Event

@@ -72,7 +72,7 @@ length_refusal s file to =
     ∷ refuse_if (nat_le (length s.table.files) file) refusals.NoFile
     ∷ refuse_if (nat_lt (capacity_of s file) to) refusals.Einval ∷ [])
 
--- Rule: notresident: A file doesn't grow from inside a page that isn't in memory.
+-- Rule: notresident: A file can't grow if it ends within a page that isn't in memory.
 -- Whether a file would grow from inside a page that is not in memory.
 abbrev pub lacks_last_page : State → ℕ → ℕ → Bool
 lacks_last_page s file to =

@@ -171,8 +171,8 @@ pub record ProtectMade (s : State) (p : ℕ) (new : State) : Type 0 where
   pub rights_set : SetsRights pcid range rights s.hardware.spaces spaces
   pub done : new ≡ end_change s p spaces s.hardware.memory s.checkpoint
 
--- Rule: kept: A page stays in memory while it is dirty, a batch that isn't done has it, it has bytes past its file's
--- end, or the machine is broken.
+-- Rule: kept: A page must stay in memory if it is dirty, if it belongs to an unfinished batch, if bytes were stored
+-- past its file's end, or if the machine is broken.
 -- The page in a frame may leave memory. It is clean, and its batches are done. Its home block has its bytes, since
 -- nothing was stored past the file's end. The machine is not broken.
 pub record MayLeave (s : State) (owner : FilePage) (frame : ℕ) : Type 0 where

@@ -9,7 +9,7 @@ use Rattle.mappings.specs.declared.place.Rights.{Rights}
 use Rattle.mappings.specs.declared.page_range.PageRange.{PageRange}
 use Rattle.mappings.specs.Places.{Places, allows, any_mapped, all_mapped, any_forbids}
 
--- Rule: rounded length: A range of bytes contains each page that it reaches: its length is rounded up to whole pages.
+-- Rule: rounded length: The length of a range of bytes is rounded up to whole pages.
 -- The pages that contain the `len` bytes from address `va` on.
 abbrev pub pages_holding : ℕ → ℕ → PageRange
 pages_holding va len = record { first = va / 4096; count = div_ceil len 4096 }

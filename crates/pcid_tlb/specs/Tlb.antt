@@ -56,7 +56,7 @@ cr3_loaded t pcid keep = if keep then t else without_pcid t pcid
 abbrev pub with_room : ℕ → List CachedEntry → List CachedEntry
 with_room capacity entries = if nat_lt (length entries) capacity then entries else drop 1 entries
 
--- Rule: full TLB: In a full TLB, the entry of a page that isn't cached yet replaces the oldest entry.
+-- Rule: full TLB: If the TLB is full, the entry of a page that wasn't cached before replaces the oldest entry.
 -- The TLB with `e` as its newest entry. It replaces the entry of its page and PCID if there is one. Otherwise it
 -- replaces the oldest entry if the TLB is full.
 abbrev pub filled : TlbState → CachedEntry → TlbState

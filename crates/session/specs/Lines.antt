@@ -13,7 +13,7 @@ abbrev pub IsNextLine : List ℕ → List ℕ → List ℕ → Type 0
 IsNextLine bytes line rest =
     HasNoFeed line × ((bytes ≡ line ++ 10 ∷ rest) ⊎ ((bytes ≡ line) × (line ≢ []) × (rest ≡ [])))
 
--- Rule: long line: A line of more than 262144 bytes is skipped up to its line feed, and nothing of it is read.
+-- Rule: long line: A session skips a line of more than 262144 bytes. No part of the line is read as a request.
 -- A line of at most 262144 bytes is given as it is. For a longer line, `None` is given.
 abbrev pub IsGiven : Option (List ℕ) → List ℕ → Type 0
 IsGiven (Some given) line = (given ≡ line) × (length line ≤ 262144)

@@ -30,7 +30,7 @@ Agrees spaces e = (entry : Mapped) × (entry_at spaces e.pcid e.page ≡ Some en
 abbrev pub IsCovered : Spaces → Processor → Type 0
 IsCovered spaces p = All (λ e. IsUsable p e → Agrees spaces e) p.tlb.entries
 
--- Rule: stale entry: No processor uses a cached entry that a change made stale: it first carries out its invalidations.
+-- Rule: stale entry: A processor drops a cached entry that a change made stale before the processor can use the entry.
 -- The processors and the page tables cohere. While a change is in progress, a processor's queue drops every affected
 -- entry that the processor may cache, now or later. No active processor is in a space that the change touches.
 pub record Coheres (spaces : Spaces) (s : ShootdownState) : Type 0 where

@@ -80,7 +80,7 @@ drained p = record p {
   may_cache = flags_kept (λ pcid. pcid == p.space || not (list_any (λ a. drops_pcid a pcid) p.queue)) 0 p.may_cache;
 }
 
--- Rule: full queue: A ninth invalidation replaces the queue with one that drops all that the processor caches.
+-- Rule: full queue: Instead of a ninth invalidation, the queue contains one invalidation of all TLB entries.
 -- the queue with one more invalidation
 abbrev pub queued : List Invpcid → Invpcid → List Invpcid
 queued queue a = if nat_lt (length queue) queue_len then queue ++ a ∷ [] else AllContexts ∷ []

@@ -75,7 +75,7 @@ without_mapping spaces pcid range =
       places = without_range space.places range.first range.count;
     })
 
--- Rule: lowest free PCID: A space gets the lowest PCID from 1 on that no space has.
+-- Rule: lowest free PCID: A new space gets the lowest unused PCID, from 1 on.
 -- The PCID is the lowest one from 1 on that no space has. PCIDs have 12 bits.
 pub record IsLowestFree (spaces : Spaces) (pcid : ℕ) : Type 0 where
   pub some : 0 < pcid

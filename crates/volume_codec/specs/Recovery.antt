@@ -57,7 +57,8 @@ abbrev pub record_or : ℕ → ℕ → List ℕ → ℕ → ℕ
 record_or other records [] b = other
 record_or other records (home ∷ homes) b = if b == home then records else record_or other (records + 1) homes b
 
--- Rule: recovered lengths: The lengths are those of the newest open journal that has them, else of the lengths block.
+-- Rule: recovered lengths: The newest open journal with a record of the lengths determines the files' lengths. If there
+-- is none, the lengths block does.
 -- the block with the recovered bytes of home block b: its record in the newest batch that has one, or else b itself
 abbrev pub recovered_block : ℕ → List Batch → ℕ → ℕ
 recovered_block slots [] b = b
@@ -104,12 +105,12 @@ pub record RecoversTo (bytes : List ℕ) (files : List File) : Type 0 where
   pub lengths : HasLengths table contents
   pub files_are : files ≡ files_in table contents
 
--- Rule: notavolume: Fewer bytes than a block, or bytes that begin with the magic of no layout, are no volume.
+-- Rule: notavolume: Bytes aren't a volume if they are fewer than a block, or don't begin with a layout's magic.
 -- The bytes are no volume: they are too few for a super block, or begin with the magic of no layout.
 abbrev pub IsNotAVolume : List ℕ → Type 0
 IsNotAVolume bytes = (length bytes < 4096) ⊎ ((layout : Layout) → take 8 bytes ≢ magic_of layout)
 
--- Rule: damaged: Bytes that begin with a layout's magic, but break any other rule, are a damaged volume.
+-- Rule: damaged: Bytes are a damaged volume if they begin with a layout's magic, but break another rule of the layout.
 -- The bytes are a damaged volume: they begin like a volume, but recover to no files.
 pub record IsDamaged (bytes : List ℕ) : Type 0 where
   pub long : 4096 ≤ length bytes

@@ -13,8 +13,8 @@ pub enum FileFailure<'a> {
     /// A file beside a volume couldn't be made or removed.
     #[error("file {path:?}: {cause}")]
     Beside { path: String, cause: io::Error },
-    // Rule: file lock: The file of a volume is locked until it is closed: alone where it is written to, else beside
-    // readers.
+    // Rule: file lock: A volume's file is locked until it is closed. The lock is exclusive if the file is opened for
+    // writing, and otherwise shared.
     /// Another process has the file of the volume locked.
     #[error("disk {path:?}: in use by another process")]
     InUse { path: &'a str },
@@ -45,9 +45,9 @@ pub enum FileFailure<'a> {
     /// The file in which a copy is made exists already.
     #[error("file {path:?}: {new:?} is there already: if no other export is at work, remove it")]
     CopyIsThere { path: &'a str, new: String },
-    // Rule: suspect volume: A volume whose file couldn't be synced is marked, and opened again only where it is
-    // trusted.
-    /// The volume is marked, because a sync of its file failed.
+    // Rule: suspect volume: If a volume's file can't be synced, the volume is flagged. A flagged volume is opened only
+    // with `--trust`.
+    /// The volume is flagged, because a sync of its file failed.
     #[error("disk {path:?}: {mark:?} says that a sync of it failed, so what is read of it may not be on the disk: compare it with a copy, and give --trust or format it")]
     Suspect { path: &'a str, mark: String },
     /// The file of the volume couldn't be synced when it was opened.
