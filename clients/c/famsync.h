@@ -6,7 +6,7 @@
  * famsync_format and the command `famsync format` make volumes. famsync_open begins a session with
  * a volume, locks the volume's file, and sets `*handle` to the session's handle. At any time a
  * volume can have either one session that writes, or any number of sessions that only read.
- * Sessions include those of the program `famsync`.
+ * Commands of the program `famsync` count as sessions, too.
  *
  * A program can access the bytes of a file in two ways:
  *
@@ -18,18 +18,18 @@
  * One session may use both ways, even for the same file.
  *
  * famsync_msync commits all changes of a session. The commit is acknowledged when the call returns
- * FAMSYNC_OK. If this process is killed or the system crashes, the next session finds the files as
- * one commit left them. This commit is the last acknowledged commit, or a later, unacknowledged
- * commit.
+ * FAMSYNC_OK. If this process is killed or the system crashes, the next session finds all changes
+ * up to one commit, and no later changes. This commit is the last acknowledged commit, or a later,
+ * unacknowledged commit.
  *
- * A page is 4,096 bytes of a file. A block is 4,096 bytes of the volume's file. Each page has a
- * block of its own, called the page's place. The volume's file also contains journals or a log. A
- * commit first writes the changed pages to a journal or to the log. Later the library writes these
- * pages to their places.
+ * A file is divided into pages, and the volume's file into blocks, of 4,096 bytes each. Each page
+ * has a block of its own, called the page's place. The volume's file also contains journals or a
+ * log. A commit first writes the changed pages to a journal or to the log. Later the library writes
+ * these pages to their places.
  *
  * Each call that returns an int returns FAMSYNC_OK or one of the negative codes below.
- * famsync_strerror describes a code. Any number of threads may use one handle. Their calls take
- * turns. If a thread is canceled within a call, the call still completes.
+ * famsync_strerror describes a code. Any number of threads may use one handle. Their calls may wait
+ * for each other. If a thread is canceled within a call, the call still completes.
  *
  * A session belongs to the process that called famsync_open. Only this process keeps the volume
  * locked. A forked process gets copies of the handle and of plain memory. In the forked process:
@@ -68,8 +68,8 @@ enum famsync_code {
     FAMSYNC_NOMEMORY = -2, /* memory couldn't be allocated */
     FAMSYNC_SYSTEM = -3,   /* a system call failed, and errno has the cause; EPROTO means a bug in
                               the library */
-    FAMSYNC_INUSE = -6,    /* another session has locked the file, or a backup is being written to
-                              it */
+    FAMSYNC_INUSE = -6,    /* another session has locked the volume's file, or a backup is being
+                              written to this file */
     FAMSYNC_SUSPECT = -7,  /* An earlier sync failed, so the volume is flagged as suspect
                               (see famsync_msync and the option `trust`). */
     FAMSYNC_FORKED = -11,  /* a forked process used its copy of the handle */
@@ -90,7 +90,7 @@ enum famsync_code {
                                  famsync_format) */
 
     /* why an access or a commit is refused */
-    FAMSYNC_NOFRAME = -27, /* too many pages for one commit were written or added */
+    FAMSYNC_NOFRAME = -27, /* more pages were written or added than one commit can have */
     FAMSYNC_DEVICE = -28,  /* a read, a write or a sync of the volume failed; errno has the cause */
     FAMSYNC_BROKEN = -29,  /* a write or a sync failed earlier, so the session is over */
     FAMSYNC_EINVAL = -30,  /* a write past the file's end, or a length that the file can't have */
@@ -121,8 +121,8 @@ typedef struct famsync_memory famsync_memory;
 
 /* The options of famsync_open. A null pointer as `options` means that all options are 0.
 
-   Set `size` to the size of this structure. Later versions of the library add fields at the end.
-   The library learns from `size` which fields the program's structure has. If `size` is 0, the
+   Set `size` to the size of this structure. Later versions of the library may add fields at the
+   end. The library learns from `size` which fields the program's structure has. If `size` is 0, the
    library ignores the fields after `readonly`. If the program's structure is larger than the
    library's, the additional bytes must be 0 (otherwise FAMSYNC_ARGUMENT). */
 struct famsync_options {
@@ -144,7 +144,8 @@ struct famsync_options {
                             famsync_memory_open */
 };
 
-/* What tracks stores to plain memory: the library's handler of SIGSEGV, or the kernel. */
+/* FAMSYNC_TRACK_SIGNALS: the library's handler of SIGSEGV tracks stores to plain memory.
+   FAMSYNC_TRACK_KERNEL: the kernel tracks them. */
 enum famsync_tracking { FAMSYNC_TRACK_SIGNALS = 0, FAMSYNC_TRACK_KERNEL = 1 };
 
 /* Returns the version of the library that this program runs with. */
@@ -159,8 +160,8 @@ struct famsync_new_file {
     uint64_t capacity;
 };
 
-/* A new volume. Set `size` to the size of this structure. Later versions of the library add fields
-   at the end. */
+/* A new volume. Set `size` to the size of this structure. Later versions of the library may add
+   fields at the end. */
 struct famsync_plan {
     size_t size;
     unsigned layout; /* 1 to 6; 0 means 4 */
@@ -198,11 +199,11 @@ struct famsync_plan {
      list of the pages, a block with the files' lengths, and one free block. So a log of 16,384
      blocks allows 16,366 pages.
 
-   Without `preallocate`, a full disk makes the library's first write to a block fail. This failure
-   ends the session (FAMSYNC_DEVICE).
+   Without `preallocate`, the library's first write to a block fails if the disk is full. This
+   failure ends the session (FAMSYNC_DEVICE).
 
    A commit makes two syncs in layout 5, and one in layout 6. Layout 6 assumes that no partly
-   written commit and no old bytes in the log match a digest.
+   written commit and no old bytes in the log match their digest.
 
    FAMSYNC_ARGUMENT: the plan is invalid. `message` has the reason, unless `size` is invalid.
    FAMSYNC_SYSTEM with EEXIST: VOLUME or VOLUME.new already exists. */
@@ -212,8 +213,8 @@ int famsync_format(const char *volume, const struct famsync_plan *plan);
    the path is a symbolic link, the library opens the link's target. The file is locked until the
    session ends. On failure `*handle` is set to a null pointer.
 
-   FAMSYNC_INUSE: after `wait_ms` milliseconds another session, or a backup to this file, still
-   locks it.
+   FAMSYNC_INUSE: after `wait_ms` milliseconds the file is still locked by another session, or by a
+   backup to this file.
    FAMSYNC_SYSTEM with ENAMETOOLONG: the file's name has more than 247 bytes.
 
    With the option `readonly`:
@@ -262,10 +263,11 @@ unsigned famsync_frames(const famsync *handle);
    longer use bytes past the new end. FAMSYNC_SYSTEM: the system refused to resize the memory. */
 int famsync_setlength(famsync *handle, const char *file, uint64_t length);
 
-/* Reads `count` bytes of a file from `offset` on, including uncommitted changes of this session.
-   `*done` is set to the number of bytes read; `done` may be a null pointer. If the file ends before
-   `offset` + `count`, the call reads only the bytes up to the file's end, and returns FAMSYNC_OK.
-   If a read of the volume fails, `*done` is the number of bytes read before the failure. */
+/* Reads `count` bytes of a file from `offset` on. These bytes include uncommitted changes of this
+   session. `*done` is set to the number of bytes read; `done` may be a null pointer. If the file
+   ends before `offset` + `count`, the call reads only the bytes up to the file's end, and returns
+   FAMSYNC_OK. If a read of the volume fails, `*done` is the number of bytes read before the
+   failure. */
 int famsync_read(famsync *handle, unsigned file, uint64_t offset, void *bytes, size_t count, size_t *done);
 
 /* Writes `count` bytes to a file from `offset` on. `*done` is set to the number of bytes written;
@@ -275,7 +277,7 @@ int famsync_read(famsync *handle, unsigned file, uint64_t offset, void *bytes, s
    longer. FAMSYNC_NOFRAME: more pages would wait than one commit can have. In both cases nothing is
    written.
 
-   FAMSYNC_DEVICE: the library couldn't read a page that the call writes only in part. After
+   FAMSYNC_DEVICE: the library couldn't read a page of which the call writes only a part. After
    FAMSYNC_DEVICE or FAMSYNC_NOMEMORY, `*done` is the number of bytes written before the failure.
 
    If plain memory of the file is open, famsync_read and famsync_write use this memory. A write is
@@ -313,8 +315,9 @@ int famsync_msync(famsync *handle, uint64_t *mark);
 
 /* Undoes all changes of this session since the last commit: writes, stores to plain memory, and
    lengths. Other threads may store during the call, except with FAMSYNC_TRACK_KERNEL. The call
-   undoes all stores that threads made before one moment within the call. Later stores remain. If a new length of a
-   file is undone, plain memory of this file grows or shrinks in place, as with famsync_setlength.
+   undoes all stores that threads made before one moment within the call. Later stores remain. If a
+   new length of a file is undone, plain memory of this file grows or shrinks in place, as with
+   famsync_setlength.
 
    The call may first write committed pages to their places. If a write or a new length waits for a
    commit, the call needs as much additional memory as a second session.
@@ -325,8 +328,9 @@ int famsync_msync(famsync *handle, uint64_t *mark);
    A call that fails undoes nothing, with two exceptions:
 
    - A write or a sync failed after all changes were undone.
-   - FAMSYNC_SYSTEM: a system call on plain memory failed. If it failed during the undoing, a part
-     of the changes may be undone. Then commits fail with FAMSYNC_TORN until a rollback succeeds. */
+   - FAMSYNC_SYSTEM: a system call on plain memory failed. If it failed while the library was
+     undoing changes, some changes may be undone, others not. Then commits fail with FAMSYNC_TORN
+     until a rollback succeeds. */
 int famsync_rollback(famsync *handle);
 
 /* Returns the number of the last acknowledged commit of this session, or 0 if there is none. */
@@ -336,24 +340,25 @@ uint64_t famsync_acknowledged(famsync *handle);
 const char *famsync_strerror(int code);
 
 /* Statistics of a session. Set `size` to the size of this structure. FAMSYNC_ARGUMENT: `size` is
-   too small to include the field `memory`. Later versions of the library add fields after
+   too small to include the field `memory`. Later versions of the library may add fields after
    `memory`. If the structure has fields that the library doesn't know, famsync_stat sets them to 0.
    `reads`, `writes` and `syncs` count system calls since the session began, including failed calls.
-   `syncs` counts neither interrupted syncs nor the first sync of famsync_open. */
+   `syncs` counts neither syncs that a signal interrupted nor the first sync of famsync_open. */
 struct famsync_stat {
     size_t size;
     uint64_t commits;       /* the number of the last acknowledged commit */
     uint64_t frames;        /* the most pages that one commit can have */
-    uint64_t staged;        /* pages that wait for a commit, including pages of plain memory */
-    uint64_t unwritten;     /* Layouts 1 to 4: all blocks of each commit whose writes and syncs
-                               aren't finished. A block in two of these commits counts twice.
-                               Layouts 5 and 6: blocks of the log that are in use. */
+    uint64_t staged;        /* the number of pages that wait for a commit, including pages of plain
+                               memory */
+    uint64_t unwritten;     /* Layouts 1 to 4: the number of blocks in all commits with unfinished
+                               writes or syncs. A block in two of these commits counts twice.
+                               Layouts 5 and 6: the number of the log's blocks in use. */
     uint64_t reads;         /* reads of the volume's file */
     uint64_t writes;        /* writes to the volume's file */
     uint64_t syncs;         /* syncs of the volume's file */
     uint64_t bytes_written; /* bytes written to the volume's file */
-    uint64_t memory;        /* bytes of memory, without plain memory, that all sessions of this
-                               process use for pages and commits */
+    uint64_t memory;        /* the bytes of memory that all sessions of this process use for pages
+                               and commits, besides plain memory */
 };
 
 int famsync_stat(famsync *handle, struct famsync_stat *stat);
@@ -363,8 +368,8 @@ int famsync_stat(famsync *handle, struct famsync_stat *stat);
    to, and writes the backup to this file. Blocks of zeros become holes. When the call succeeds, the
    backup is synced. If you created the file for the backup, sync its folder, too.
 
-   Other threads may use the handle during the backup, even for famsync_msync. The library locks the
-   backup's file like a volume until the call returns.
+   Other threads may use the handle during the backup, even for famsync_msync. Until the call
+   returns, the library locks the backup's file like a volume's file.
 
    - FAMSYNC_ARGUMENT: the backup's file is the volume's file, or isn't a regular file. Or
      `descriptor` isn't open for reading and writing, or has O_APPEND.
@@ -388,30 +393,30 @@ int famsync_backup(famsync *handle, int descriptor);
  * A commit copies each page that was stored to. Both the page and the copy use memory. After the
  * committed page is written to its place, the library can return this memory to the system. The
  * library does this when committed pages and their copies use more than `budget` bytes. In layouts
- * 5 and 6 the library keeps the memory of each page whose commit is still in the log. So committed
- * pages and their copies can exceed the budget by up to twice the log's length.
+ * 5 and 6 the library keeps the memory of each page whose commit is still in the log. So the memory
+ * of committed pages and their copies can exceed the budget by up to twice the log's length.
  *
  * As with any mapped file, a load raises SIGBUS if the volume's file can't be read or was
- * truncated. In a forked process, pages may have the bytes of commits made after the fork.
+ * truncated. In a forked process, pages may contain bytes that the parent committed after the fork.
  *
- * In three cases the call reads the whole file instead of mapping it:
+ * In three cases the call reads the whole file instead of mapping the volume's file:
  *
  * - the option `resident` is set;
  * - the system's pages are larger than 4,096 bytes;
  * - the system can't map the volume's file.
  *
- * In these cases there is no SIGBUS, `budget` has no effect, and a forked process sees no later
+ * In these cases loads raise no SIGBUS, `budget` has no effect, and a forked process sees no later
  * commit.
  *
- * With FAMSYNC_TRACK_SIGNALS other threads may store during a commit. A commit contains the stores
- * made before one moment within famsync_msync, and no later stores. This moment is the same for all
- * threads, and for all plain memory of the handle. At this moment the library makes all pages
- * read-only again. Then the library copies the pages that were stored to. A store during the
- * copying waits until the copying ends. Stores through a pointer don't wait for the commit's writes
- * and syncs. If several stores must be committed together, make them all while no commit is in
- * progress.
+ * With FAMSYNC_TRACK_SIGNALS other threads may store during a commit. A commit contains all stores
+ * that threads made before one moment within famsync_msync, but no later stores. This moment is the
+ * same for all threads, and for all plain memory of the handle. At this moment the library makes
+ * all pages read-only again. Then the library copies the pages that were stored to. A store during
+ * the copying waits until the copying ends. Stores through a pointer don't wait for the commit's
+ * writes and syncs. If several stores must be committed together, make them all while no commit is
+ * in progress.
  *
- * Some stores don't reach the library's handler:
+ * For some stores the system doesn't call the library's handler:
  *
  * - A store by the kernel raises no signal. So read(2) and similar calls fail with EFAULT if they
  *   store to a read-only page.
@@ -424,18 +429,19 @@ int famsync_backup(famsync *handle, int descriptor);
  *
  * With FAMSYNC_TRACK_KERNEL there is no handler: the kernel tracks stores, including stores by
  * read(2) and similar calls. FAMSYNC_TRACK_KERNEL needs Linux 6.7 or later. Other threads must not
- * store during famsync_msync, famsync_rollback and famsync_setlength. Such stores can make a commit
- * fail, or be lost:
+ * store during famsync_msync, famsync_rollback or famsync_setlength. Such a store can make a
+ * commit fail, or can be lost:
  *
  * - If another thread stores while a commit copies pages, the commit repeats the copying. After
  *   four attempts famsync_msync returns FAMSYNC_BUSY, and nothing is committed.
  * - At the end of a commit the library may return the memory of committed pages to the system (see
  *   `budget`). If another thread stores to these pages at that time, the store may be lost.
  *
- * FAMSYNC_TRACKING, from famsync_open or famsync_memory_open: the system can't track stores.
+ * FAMSYNC_TRACKING, from famsync_open or famsync_memory_open: the system can't track stores in the
+ * requested way.
  * FAMSYNC_ARGUMENT, from famsync_open: the options have both FAMSYNC_TRACK_KERNEL and `resident`.
  *
- * If the file ends within its last page, stores to the rest of this page are never committed. The
+ * If the file's end is inside a page, stores to the rest of this page are never committed. The
  * addresses after the last page, up to the file's capacity, are reserved: the program must not use
  * them. FAMSYNC_ARGUMENT, from famsync_memory_open: the file is empty.
  */
@@ -447,7 +453,7 @@ int famsync_memory_open(famsync *handle, const char *file, famsync_memory **memo
 
    - The address isn't a multiple of the system's page size.
    - The occupied addresses begin below 65,536, or end above the highest possible address.
-   - Some of these addresses already have other memory. */
+   - Some of these addresses are already in use. */
 int famsync_memory_open_at(famsync *handle, const char *file, void *address, famsync_memory **memory);
 
 /* famsync_memory_at returns the address of the memory. This address never changes.
@@ -455,8 +461,8 @@ int famsync_memory_open_at(famsync *handle, const char *file, void *address, fam
 void *famsync_memory_at(const famsync_memory *memory);
 size_t famsync_memory_length(const famsync_memory *memory);
 
-/* Returns the number of pages that were stored to since the last commit. A page may count even if
-   its bytes didn't change. */
+/* Returns the number of pages that were stored to since the last commit or rollback. A page may
+   count even if its bytes didn't change. */
 size_t famsync_memory_dirty(const famsync_memory *memory);
 
 /* Makes all pages of a range writable, as a store to each page would. The range has `count` bytes,
