@@ -14,7 +14,7 @@ use log_format::log_block_count;
 use page_entry::Refusal;
 use std::alloc::Allocator;
 use std::fs::{File, Files};
-use std::io::Read;
+use std::io::{self, Read};
 use volume_codec::FileSpec;
 
 /// A volume with a log to be made: how it seals its commits, its files, the number of its log's blocks, and whether
@@ -42,15 +42,20 @@ const RANDOM: &str = "/dev/urandom";
 
 /// Returns a key for the digests of a log, drawn at random.
 pub fn draw_key<'a, R: Files<File = File>>(rt: &R) -> Result<u64, FileFailure<'a>> {
-    let refused = |cause| FileFailure::File {
-        path: RANDOM,
-        cause,
-    };
+    match random_word(rt) {
+        Ok(key) => Ok(key),
+        Err(cause) => Err(FileFailure::File {
+            path: RANDOM,
+            cause,
+        }),
+    }
+}
+
+// Returns 8 random bytes as a number.
+fn random_word<R: Files<File = File>>(rt: &R) -> io::Result<u64> {
     let mut bytes = [0; 8];
-    let mut file = File::open(rt, RANDOM)
-        .and_then(off_streams)
-        .map_err(refused)?;
-    file.read_exact(&mut bytes).map_err(refused)?;
+    let mut file = off_streams(File::open(rt, RANDOM)?)?;
+    file.read_exact(&mut bytes)?;
     Ok(u64::from_be_bytes(bytes))
 }
 
