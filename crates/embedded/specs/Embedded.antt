@@ -34,8 +34,8 @@ over_device pager device = record pager { device = device }
 abbrev pub made_calls : Deferred → ℕ
 made_calls disk = recorded_calls disk - disk.waiting
 
--- Rule: deferred acknowledgement: The core acknowledges a mark once the host has made the calls that the mark's commit
--- recorded.
+-- Rule: deferred acknowledgement: A commit in the C library's core only records device calls. The core acknowledges the
+-- commit once the host has made these calls.
 -- The mark that is acknowledged after the host made `made` device calls: `committed` if its commit needs no more than
 -- these, and otherwise `before`.
 abbrev pub acknowledged_by_calls : (made due : ℕ) → (committed before : Option ℕ) → Option ℕ
