@@ -6,7 +6,7 @@
  * The program that uses the core is called the host. Block n of the volume's file is the 4,096
  * bytes at offset 4,096 * n. A page is 4,096 bytes of a file in the volume. The host reads blocks,
  * and supplies them to the core. Pages that the host passes to famsync_core_write wait in the
- * core's memory. The next commit makes them durable, all or none.
+ * core's memory. The next commit makes all of them durable, or none.
  *
  * To make a commit durable, the core records calls for the host to make: writes and syncs of the
  * volume's file. The host makes these calls in order, and then reports them to the core. A waiting
@@ -76,7 +76,7 @@
  * - Use a handle only after famsync_core_begin succeeds, and before famsync_core_close.
  * - Call only one function at a time with a handle.
  * - If an argument `count` follows a pointer argument, pass a non-null pointer to `count` bytes.
- * - Use `*bytes` of famsync_core_call only until you call a different core function.
+ * - Use `*bytes` of famsync_core_call only until you call any other core function.
  *
  * The core allocates and frees memory through three functions that the host defines: rattle_alloc,
  * rattle_realloc and rattle_dealloc (below).
@@ -126,7 +126,7 @@ enum famsync_core_code {
     /* why a function fails; these codes, except OTHER, have the same numbers in
        clients/c/famsync.h */
     FAMSYNC_CORE_NOFRAME = -27, /* the next commit would have too many pages */
-    FAMSYNC_CORE_DEVICE = -28,  /* out of memory, so a call couldn't be recorded */
+    FAMSYNC_CORE_DEVICE = -28,  /* out of memory, so the core couldn't record a call */
     FAMSYNC_CORE_BROKEN = -29,  /* a function returned DEVICE earlier: close the session, and
                                    begin a new one */
     FAMSYNC_CORE_EINVAL = -30,  /* the page begins at or past the file's end, or the new length is
@@ -175,14 +175,14 @@ int32_t famsync_core_open(famsync_core core, uint32_t pages, uint32_t *wanted, u
 
 /* famsync_core_files returns the number of files of the volume. Files are numbered from 0.
    famsync_core_frames returns the greatest number of pages that a commit can have.
-   famsync_core_head returns the number of blocks before the first file, including the blocks of the
-   journals or the log. Codes: ORDER. */
+   famsync_core_head returns the number of blocks before the first file's home blocks, including the
+   blocks of the journals or the log. Codes: ORDER. */
 int64_t famsync_core_files(famsync_core core, uint8_t **at);
 int64_t famsync_core_frames(famsync_core core, uint8_t **at);
 int64_t famsync_core_head(famsync_core core, uint8_t **at);
 
-/* Returns 1 if the syncs of later commits can serve to write a commit home, and 0 otherwise. The
-   result is 1 in layouts 4 to 6. Codes: ORDER. */
+/* Returns 1 if the work of writing a commit home can share the syncs of later commits, and 0
+   otherwise. The result is 1 in layouts 4 to 6. Codes: ORDER. */
 int32_t famsync_core_shares_syncs(famsync_core core, uint8_t **at);
 
 /* Sets `*length` to a file's current length in bytes, even if this length still waits for a commit.
@@ -190,9 +190,9 @@ int32_t famsync_core_shares_syncs(famsync_core core, uint8_t **at);
    such file), ORDER. */
 int32_t famsync_core_file(famsync_core core, uint32_t file, uint64_t *length, uint64_t *pages, uint8_t **at);
 
-/* Copies the name of a file to `name`. A name has 1 to 32 bytes, each from '!' to '~'. No null byte
-   is added. Returns the length of the name. Codes: ARGUMENT (no such file, or the name has more
-   than `count` bytes), ORDER. */
+/* Copies the name of a file to `name`. A name has 1 to 32 bytes, each from '!' to '~'. Adds no null
+   byte. Returns the length of the name. Codes: ARGUMENT (no such file, or the name has more than
+   `count` bytes), ORDER. */
 int64_t famsync_core_file_name(famsync_core core, uint32_t file, uint8_t *name, size_t count, uint8_t **at);
 
 /* Reads a page of a file into `bytes`. The page's bytes past the file's end are 0. Pages are
@@ -223,19 +223,20 @@ int32_t famsync_core_is_staged(famsync_core core, uint32_t file, uint64_t page, 
    Codes: OK, WANTED, NOMEMORY (call this function again), BROKEN, DEVICE, BUSY, ORDER.
 
    WANTED and NOMEMORY occur only for volumes with a log (layouts 5 and 6). If the log has no room
-   for the commit, the function first makes steps of famsync_core_write_out. A step or the commit
-   may need a block that isn't known. After WANTED or NOMEMORY, calls of finished steps stay
+   for the commit, the function first makes steps as famsync_core_write_out does. A step or the
+   commit may need a block that isn't known. After WANTED or NOMEMORY, calls of finished steps stay
    recorded, and the pages and lengths still wait. */
 int32_t famsync_core_commit(famsync_core core, uint32_t *mark, uint32_t *wanted, uint8_t **at);
 
 /* Returns the number of the last acknowledged commit, or 0 if no commit is acknowledged. A commit
    is acknowledged once the host has reported all calls that waited when famsync_core_commit
    returned OK for this commit. Exception: if commit n + 1 is made before commit n is acknowledged,
-   commit n is acknowledged only with commit n + 1. An acknowledged commit is durable. Codes:
-   ORDER. */
+   commit n is acknowledged only together with commit n + 1. An acknowledged commit is durable.
+   Codes: ORDER. */
 int64_t famsync_core_acknowledged(famsync_core core, uint8_t **at);
 
-/* Records calls that write commits home. Makes at most `most` steps of this work.
+/* Records calls that write commits home. This work consists of steps. The function makes at most
+   `most` of them.
 
    Codes: OK (steps remain), NONE (no step remains), WANTED, NOMEMORY (call this function again),
    BROKEN, DEVICE, ORDER.
@@ -244,7 +245,7 @@ int64_t famsync_core_acknowledged(famsync_core core, uint8_t **at);
    finished steps stay recorded. */
 int32_t famsync_core_write_out(famsync_core core, uint32_t most, uint32_t *wanted, uint8_t **at);
 
-/* Returns the number of blocks in the commits for which famsync_core_write_out has further steps. A
+/* Returns the number of blocks in all commits for which steps of famsync_core_write_out remain. A
    block in two of these commits counts twice. For a volume with a log, returns `*used` of
    famsync_core_log instead. Codes: ORDER. */
 int64_t famsync_core_unwritten(famsync_core core, uint8_t **at);
@@ -253,7 +254,7 @@ int64_t famsync_core_unwritten(famsync_core core, uint8_t **at);
 
    - `*blocks`: the number of blocks of the log;
    - `*used`: the number of log blocks in use;
-   - `*commits`: the number of commits in the blocks in use.
+   - `*commits`: the number of commits in these blocks.
 
    A commit's log blocks are in use until the start of the log (docs/FORMATS.md) moves past the
    commit. Codes: OK, NONE (the volume has journals, and nothing is set), ORDER. */
@@ -287,11 +288,12 @@ int32_t famsync_core_call(famsync_core core, uint32_t index, uint32_t *kind, uin
    changes). */
 int32_t famsync_core_carried_out(famsync_core core, uint32_t count, uint8_t **at);
 
-/* Forgets a block: the block isn't known any more. A later function call that needs this block
-   returns WANTED. The volume need not be open yet. These blocks are kept:
+/* Forgets a block: the block isn't known any more. While it isn't known, function calls that need
+   it return WANTED. The volume need not be open yet. The core keeps these blocks:
 
    - each block to which a waiting call writes;
-   - once the volume is open, all blocks before the first file, except the log's blocks.
+   - once the volume is open, all blocks before the first file's home blocks, except the log's
+     blocks.
 
    Codes: OK, NONE (the block is kept), ARGUMENT (no such block). */
 int32_t famsync_core_forget(famsync_core core, uint32_t block, uint8_t **at);
@@ -300,10 +302,11 @@ int32_t famsync_core_forget(famsync_core core, uint32_t block, uint8_t **at);
    function only once for each handle. */
 void famsync_core_close(famsync_core core);
 
-/* The host defines these three functions. They must call one allocator's malloc, realloc and free.
+/* The host defines these three functions. They must use the same allocator's malloc, realloc and
+   free.
 
    - `ok`, `p`: on success `ok` is true, and `p` points to the memory. On failure `ok` is false, and
-     `p` points to any byte of the program. `p` must never be null.
+     `p` points to any byte of the host's memory. `p` must never be null.
    - `align`: the required alignment, at most 16.
    - `kept`: rattle_realloc keeps the first `kept` bytes of the memory at `old`. If rattle_realloc
      fails, this memory doesn't change.

@@ -76,16 +76,16 @@ static uint64_t capacity_of(const struct famsync_new_file *file)
 static const char *judge_file(const struct made *made, const struct famsync_new_file *file)
 {
     if (!is_name(file->name))
-        return "a file's name has 1 to 32 characters from '!' to '~'";
+        return "a file's name must have 1 to 32 characters from '!' to '~'";
     for (const struct famsync_new_file *other = made->plan.file; other < file; other++)
         if (strcmp(other->name, file->name) == 0)
-            return "two files have one name";
+            return "two files have the same name";
     if (capacity_of(file) == 0)
-        return "a file has room for at least one byte";
+        return "a file's capacity must be at least 1";
     if (file->length > capacity_of(file))
-        return "a file's length is more than its capacity";
+        return "a file's length exceeds its capacity";
     if (made->lengths == 0 && file->length < capacity_of(file))
-        return "in this layout a file's length is its capacity";
+        return "in this layout a file's length must equal its capacity";
     return NULL;
 }
 
@@ -117,7 +117,7 @@ static const char *judge_journals(struct made *made)
     if (plan->log != 0 || plan->key != 0)
         return "only layouts 5 and 6 have a log, and only layout 6 has a key";
     if (plan->slots <= made->lengths || plan->slots > most_slots(plan->layout))
-        return "this layout hasn't so many slots";
+        return "the number of slots is outside this layout's range";
     made->records = plan->slots;
     made->head = 1 + JOURNALS[plan->layout - 1] * (1 + pages_of(16 + 4 * (uint64_t)plan->slots) + plan->slots);
     return NULL;
@@ -127,11 +127,11 @@ static const char *judge_log(struct made *made)
 {
     const struct famsync_plan *plan = &made->plan;
     if (plan->slots != 0)
-        return "layouts 5 and 6 have a log, and no slots";
+        return "layouts 5 and 6 have a log instead of slots";
     if (plan->key != 0 && plan->layout != LAST_LAYOUT)
         return "only layout 6 has a key";
     if (plan->log < FIRST_OF_LOG || plan->log > MOST_LOG)
-        return "a log has 4 to 16,777,216 blocks";
+        return "a log must have 4 to 16,777,216 blocks";
     made->records = most_records(plan->log);
     made->head = FIRST_OF_LOG + plan->log;
     return NULL;
@@ -142,9 +142,9 @@ static const char *judge_plan(struct made *made)
     const struct famsync_plan *plan = &made->plan;
     const char *fault;
     if (plan->layout < 1 || plan->layout > LAST_LAYOUT)
-        return "there are layouts 1 to 6";
+        return "the layout must be 1 to 6";
     if (plan->files < 1 || plan->files > MOST_FILES || !plan->file)
-        return "a volume has 1 to 64 files";
+        return "a volume must have 1 to 64 files";
     made->lengths = plan->layout >= FIRST_WITH_LENGTHS;
     fault = has_log(plan) ? judge_log(made) : judge_journals(made);
     made->head += made->lengths;
@@ -153,7 +153,7 @@ static const char *judge_plan(struct made *made)
         fault = judge_file(made, &plan->file[i]);
         made->blocks += pages_of(capacity_of(&plan->file[i]));
         if (!fault && made->blocks > UINT32_MAX)
-            fault = "a volume has less than 2^32 blocks";
+            fault = "a volume must have less than 2^32 blocks";
     }
     return fault;
 }
@@ -410,7 +410,7 @@ static int format(const char *path, const struct famsync_plan *plan, struct made
         return FAMSYNC_ARGUMENT;
     }
     if (draw_key(&made->plan) != FAMSYNC_OK) {
-        say(&message, "\"%s\": no key can be drawn: %s", path, strerror(errno));
+        say(&message, "\"%s\": can't draw a key: %s", path, strerror(errno));
         return FAMSYNC_SYSTEM;
     }
     lay_out(made);

@@ -327,13 +327,13 @@ static int judge_flag(const struct volume *volume, bool trust, struct message *m
     bool flagged;
     int code = look_for_flag(volume, &flagged);
     if (code != FAMSYNC_OK) {
-        say(message, "whether the volume has the suspect flag \"%s.suspect\" can't be seen: %s", volume->place,
+        say(message, "can't tell whether the volume has the suspect flag \"%s.suspect\": %s", volume->place,
             strerror(errno));
         return code;
     }
     if (!flagged || (trust && !volume->readonly))
         return FAMSYNC_OK;
-    say(message, "\"%s.suspect\" says that a sync of the volume failed, so what is read of it may not be on the disk%s",
+    say(message, "\"%s.suspect\" exists because a sync failed, so the disk may lack data that can be read%s",
         volume->place, volume->readonly ? "; open it once for writing, with trust" : "");
     return volume->readonly ? FAMSYNC_NEEDSOPENING : FAMSYNC_SUSPECT;
 }

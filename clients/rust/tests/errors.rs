@@ -134,7 +134,7 @@ fn suspect_volumes() {
     fs::write(made.beside("v.img.suspect"), "").unwrap();
     let error = Volume::open(made.path()).unwrap_err();
     assert_eq!(error.code(), Code::Suspect);
-    assert!(error.to_string().contains("v.img.suspect\" says that a sync of the volume failed"), "{error}");
+    assert!(error.to_string().contains("v.img.suspect\" exists because a sync failed"), "{error}");
     drop(Options::new().trust(true).open(made.path()).unwrap());
     Volume::open(made.path()).unwrap();
 }

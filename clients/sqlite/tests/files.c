@@ -275,7 +275,7 @@ static void says_why(const char *extension)
     end();
     make_mark();
     WANT(open_database(path, &none) == SQLITE_IOERR);
-    want_said(in, "v.img.suspect\" says that a sync of the volume failed", 0);
+    want_said(in, "v.img.suspect\" exists because a sync failed", 0);
     WANT(open_with("&trust=1", &database) == SQLITE_OK);
     end();
     WANT(open_database(path, &database) == SQLITE_OK);

@@ -29,9 +29,9 @@ struct Shape {
     last: Option<(&'static str, &'static str)>,
 }
 
-const DISK: (&str, &str) = ("DISK", "The file that holds the volume");
+const DISK: (&str, &str) = ("DISK", "The volume's file");
 
-const SCRIPT: (&str, &str) = ("SCRIPT", "The file that holds the script, a JSON object");
+const SCRIPT: (&str, &str) = ("SCRIPT", "The script's file, which contains a JSON object");
 
 // The defaults of a command's fields.
 const PLAIN: Shape = Shape {
@@ -47,7 +47,7 @@ const PLAIN: Shape = Shape {
 const COMMANDS: &[Shape] = &[
     Shape {
         name: "format",
-        about: "Makes or replaces the file DISK by a volume whose files are all zeros",
+        about: "Makes the volume DISK, or replaces it; all bytes of its files are 0",
         usage: Some(
             "famsync format [OPTIONS] <DISK> <SLOTS> <FILE>...\n       famsync format --layout <5|6> [OPTIONS] <DISK> <FILE>...",
         ),
@@ -58,19 +58,19 @@ const COMMANDS: &[Shape] = &[
             Choice::Preallocate,
             Choice::Json,
         ],
-        words: &[("DISK", "The file to make")],
+        words: &[("DISK", "The volume's file, which is made or replaced")],
         optional: &[(
             "SLOTS",
-            "In layouts 1 to 4 alone: record slots of each journal, 1 to 1020, in layout 3 from 2 on, in layout 4 from 2 to 65535: the most blocks that one commit can have",
+            "Only in layouts 1 to 4: the number of record slots of each journal, which limits the blocks of a commit; 1 to 1020, in layout 3 at least 2, in layout 4 2 to 65535",
         )],
         last: Some((
             "FILE",
-            "A file of the volume, as NAME=LENGTH in bytes, in layouts 3 to 6 also as NAME=LENGTH/CAPACITY",
+            "A file of the volume: NAME=LENGTH in bytes, or in layouts 3 to 6 also NAME=LENGTH/CAPACITY",
         )),
     },
     Shape {
         name: "migrate",
-        about: "Makes or replaces the file NEW by a volume whose files may grow, with the files of the volume in OLD",
+        about: "Makes the volume NEW, or replaces it, with the files of the volume OLD; these files can grow",
         usage: Some(
             "famsync migrate [OPTIONS] <OLD> <NEW> <SLOTS>\n       famsync migrate --layout <5|6> [OPTIONS] <OLD> <NEW>",
         ),
@@ -83,84 +83,87 @@ const COMMANDS: &[Shape] = &[
             Choice::Json,
         ],
         words: &[
-            ("OLD", "The file that holds the volume, which is opened"),
-            ("NEW", "The file to make"),
+            (
+                "OLD",
+                "The old volume's file; the command opens this volume",
+            ),
+            ("NEW", "The new volume's file, which is made or replaced"),
         ],
         optional: &[(
             "SLOTS",
-            "In layouts 3 and 4 alone: record slots of each journal of the new volume, 2 to 1020, in layout 4 to 65535",
+            "Only in layouts 3 and 4: the number of record slots of each new journal, 2 to 1020, in layout 4 up to 65535",
         )],
         ..PLAIN
     },
     Shape {
         name: "run",
-        about: "Runs a script of steps on a volume, and prints a reply for each step",
+        about: "Executes a script's steps on a volume, and prints the reply to each step",
         options: &[Choice::Trust],
         words: &[DISK, SCRIPT],
         ..PLAIN
     },
     Shape {
         name: "threads",
-        about: "Runs a program for each processor in a thread of its own, and prints a trace of all steps",
+        about: "Executes a script's programs on a volume, one thread for each processor, and prints a trace of all steps",
         options: &[Choice::Trust],
         words: &[
             DISK,
             (
                 "SCRIPT",
-                "The file that holds the script with the programs, a JSON object",
+                "The file of the script with the programs, which contains a JSON object",
             ),
         ],
         ..PLAIN
     },
     Shape {
         name: "serve",
-        about: "Answers requests on a volume: the first line of the input is the shape of a machine, and each further one a request",
+        about: "Answers requests on a volume; the first line of the input describes a machine, and each further line is a request",
         options: &[Choice::Trust],
         words: &[DISK],
         ..PLAIN
     },
     Shape {
         name: "replay",
-        about: "Runs a trace again on a copy of a volume, and prints whether each reply is the same",
+        about: "Repeats a trace's steps on a copy of a volume, and prints whether the replies are the same",
         options: &[Choice::Trust],
-        words: &[DISK, ("TRACE", "The file that holds the trace")],
+        words: &[DISK, ("TRACE", "The trace's file")],
         ..PLAIN
     },
     Shape {
         name: "dump",
-        about: "Prints the files of a volume as it would be opened, and leaves it as it is",
+        about: "Prints a volume's files as an opening would find them; doesn't change the volume",
         options: &[Choice::Trust, Choice::Json],
         words: &[DISK],
         ..PLAIN
     },
     Shape {
         name: "info",
-        about: "Prints what the bytes of a volume say: its shape, its files, its journals, and what opening would do",
+        about: "Prints a volume's layout, files, and journals or log, and what an opening would do",
         options: &[Choice::Trust, Choice::Json],
         words: &[DISK],
         ..PLAIN
     },
     Shape {
         name: "check",
-        about: "Prints whether a volume is clean, needs opening or is damaged, with status 0, 1 or 3",
+        about: "Prints whether a volume is clean (status 0), needs opening (status 1) or is damaged (status 3)",
         options: &[Choice::Trust, Choice::Json],
         words: &[DISK],
         ..PLAIN
     },
     Shape {
         name: "export",
-        about: "Copies a file of a volume, as it would be opened, to the file OUT, and leaves the volume as it is",
+        about: "Copies a file of a volume, as an opening would find it, to the file OUT; doesn't change the volume",
         options: &[Choice::Trust, Choice::Json],
         words: &[
             DISK,
-            ("FILE", "The name of the file in the volume"),
-            ("OUT", "The file to make or replace"),
+            ("FILE", "The file's name in the volume"),
+            ("OUT", "The copy, which is made or replaced"),
         ],
         ..PLAIN
     },
     Shape {
         name: "crashes",
-        about: "Prints what a crash within each device call of a script leaves of a copy of a volume",
+        about: "Prints which commits survive a crash within each device call of a script, on a copy of a volume",
         options: &[Choice::Trust, Choice::JsonLines, Choice::Html],
         words: &[DISK, SCRIPT],
         ..PLAIN
@@ -172,7 +175,7 @@ pub fn program<'a>(alloc: Global) -> Result<Command<'a>, AllocError> {
     let mut program = Command::new(alloc, "famsync")
         .version("0.3.0")
         .about(
-            "Commits all stores to the files of a volume at once, whatever moment a crash comes at",
+            "Commits all stores to a volume's files at once: a crash leaves all of a commit, or nothing",
         )
         .subcommand_required(true);
     for shape in COMMANDS {
@@ -234,40 +237,40 @@ fn with_option<'a>(
         Choice::Layout => command.arg(layout(
             alloc,
             "1",
-            "The number of the volume's layout: 1 has one journal, 2 has two, 3 has two and files that may grow, 4 has four, such files, and room for larger commits, and 5 and 6 have such files and a log, in which 5 seals commits by a byte, and 6 by a digest",
+            "The volume's layout. 1: one journal. 2: two journals. 3: two journals; files can grow. 4: four journals; files can grow; larger commits. 5: a log, in which a byte seals each commit; files can grow. 6: a log, in which a digest seals each commit; files can grow",
         )),
         Choice::Log => command.arg(value(
             alloc,
             "log",
             "BLOCKS",
-            "The number of the log's blocks in layouts 5 and 6, 4 to 16777216 [default: 16384]",
+            "In layouts 5 and 6: the number of the log's blocks, 4 to 16777216 [default: 16384]",
         )),
         Choice::Key => command.arg(value(
             alloc,
             "key",
             "KEY",
-            "The key of the digests in layout 6, 16 hexadecimal digits [default: drawn at random]",
+            "In layout 6: the key of the digests, 16 hexadecimal digits [default: drawn at random]",
         )),
         Choice::NewLayout => command.arg(layout(
             alloc,
             "3",
-            "The number of the new volume's layout: 3 or 4, and none below that of OLD, or 5 or 6",
+            "The new volume's layout: 3 or 4, but not below OLD's layout; or 5 or 6",
         )),
         Choice::Preallocate => command.arg(flag(
             alloc,
             "preallocate",
-            "Write zeros to all blocks of the file, so that a lack of disk space shows now",
+            "Write all blocks of the file, so that a lack of disk space is found now",
         )),
         Choice::Trust => command.arg(flag(
             alloc,
             "trust",
-            "Open the volume although a sync of it failed before",
+            "Open the volume even if its suspect flag is set, because a sync failed",
         )),
-        Choice::Json => command.arg(flag(alloc, "json", "Print JSON, faults too")),
+        Choice::Json => command.arg(flag(alloc, "json", "Print output and errors as JSON")),
         Choice::JsonLines => command.arg(flag(
             alloc,
             "json",
-            "Print a JSON object a line, faults too",
+            "Print output and errors as JSON, one object per line",
         )),
         Choice::Html => {
             command.arg(flag(alloc, "html", "Print an HTML page").conflicts_with("json")?)

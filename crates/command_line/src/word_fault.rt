@@ -30,7 +30,7 @@ pub enum WordFault<'a> {
     #[error("KEY is {0:?}, which isn't 16 hexadecimal digits")]
     Key(&'a str),
     /// An option isn't allowed in layout `found`, but only in `layouts`.
-    #[error("{option} is for {layouts}, and LAYOUT is {found}")]
+    #[error("{option} is only for {layouts}, but LAYOUT is {found}")]
     OtherLayout {
         option: &'a str,
         layouts: &'a str,

@@ -40,16 +40,16 @@ pub enum Failure<'a> {
     #[error("script {path:?}: entry {entry} of the trace: the device failed")]
     Act { path: &'a str, entry: u64 },
     /// A thread waited for others, and none of them made progress.
-    #[error("script {path:?}: a wait ran out, as no other thread got on")]
+    #[error("script {path:?}: a wait timed out: no other thread made progress")]
     Wait { path: &'a str },
     /// The trace isn't what the threads were answered.
-    #[error("script {path:?}: {cause}: the trace isn't what the threads were answered")]
+    #[error("script {path:?}: {cause}: the trace differs from the threads' replies")]
     Gather { path: &'a str, cause: Refusal },
     /// The crashes of a run couldn't be made.
     #[error("script {path:?}: {cause}")]
     Crashes { path: &'a str, cause: Refusal },
     /// The crashes of a run couldn't be made, because its second run got other replies.
-    #[error("script {path:?}: the run was answered otherwise when it was made again")]
+    #[error("script {path:?}: the repeated run had different replies")]
     Otherwise { path: &'a str },
     /// The reply to a step of a session is that the device failed.
     #[error("disk {path:?}: the device failed")]

@@ -11,17 +11,17 @@ use volume_files::{FileFailure, Refused, first_block, refused_to_open};
 /// A part of a shape that is outside its limits, with the values that are allowed.
 #[derive(Clone, Copy, Debug, Error)]
 pub enum ShapeCause {
-    #[error("cpus is {0}, and 1 to 16 are served")]
+    #[error("cpus is {0}, but must be 1 to 16")]
     Cpus(u64),
-    #[error("tlb is {0}, and 1 to 64 are served")]
+    #[error("tlb is {0}, but must be 1 to 64")]
     Tlb(u64),
-    #[error("frames is {found}, and 1 to {most} are served, as the volume has {most} record slots")]
+    #[error("frames is {found}, but must be 1 to {most}: the volume has {most} record slots")]
     Frames { found: u64, most: u64 },
-    #[error("frames is {found}, and 1 to {most} are served, as the volume has {most} record slots and one for the lengths")]
+    #[error("frames is {found}, but must be 1 to {most}: the volume has {most} record slots and one for the lengths")]
     FramesBesideLengths { found: u64, most: u64 },
-    #[error("copies is {0}, and 0 to 64 are served")]
+    #[error("copies is {0}, but must be 0 to 64")]
     Copies(u64),
-    #[error("trace is {0}, and 1 to 1000000 are served")]
+    #[error("trace is {0}, but must be 1 to 1000000")]
     Trace(u64),
 }
 

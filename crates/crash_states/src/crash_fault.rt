@@ -10,7 +10,7 @@ pub enum CrashFault {
     #[error("{0}")]
     Refused(Refusal),
     /// When the run was made again, it got other replies, for example because memory couldn't be allocated.
-    #[error("the run was answered otherwise when it was made again")]
+    #[error("the repeated run had different replies")]
     Otherwise,
     /// Memory can't be allocated.
     #[error("out of memory")]

@@ -13,12 +13,12 @@ pub enum ScriptFault {
     NotJson(serde_json::Error),
     #[error("it isn't an object")]
     NotAnObject,
-    #[error("the member {name:?} isn't there, and {form} have to be")]
+    #[error("the member {name:?} is missing: {form} are required")]
     Missing {
         name: &'static str,
         form: Form,
     },
-    #[error("it has a member {name:?}, and {form} are allowed")]
+    #[error("it has a member {name:?}, but only {form} are allowed")]
     Unknown {
         name: String,
         form: Form,
@@ -36,7 +36,7 @@ pub enum ScriptFault {
         found: String,
         cause: StepFault,
     },
-    #[error("it has {found} programs, and one for each of {cpus} processors is wanted")]
+    #[error("it has {found} programs, but needs one for each of {cpus} processors")]
     Programs {
         found: u64,
         cpus: u64,
@@ -50,7 +50,7 @@ pub enum ScriptFault {
         found: String,
         cause: StepFault,
     },
-    #[error("step {number} is of a processor that there isn't, as cpus is {cpus}")]
+    #[error("step {number} names a processor that doesn't exist: cpus is {cpus}")]
     Processor {
         number: u64,
         cpus: u64,

@@ -9,7 +9,7 @@ use thiserror::Error;
 pub enum TraceFault {
     #[error("it isn't UTF-8")]
     NotUtf8,
-    #[error("it has no lines, and the first has to be the shape of the machine")]
+    #[error("it has no lines: the first must be the machine's shape")]
     Empty,
     #[error("line 1: {0}")]
     Shape(ScriptFault),

@@ -31,34 +31,34 @@ impl fmt::Display for Refused<'_> {
 /// What was found, and what is allowed. Its `Debug` form is its text.
 #[derive(Clone, Copy, Error)]
 pub enum Cause<'a> {
-    #[error("LAYOUT is {0}, and 1 to 6 are served")]
+    #[error("LAYOUT is {0}, but must be 1 to 6")]
     Layout(u64),
-    #[error("LAYOUT is {0}, and a volume is migrated to 3 to 6")]
+    #[error("LAYOUT is {0}, but must be 3 to 6")]
     NewLayout(u64),
-    #[error("LAYOUT is {found}, and a volume in layout {old} isn't migrated to a lower one")]
+    #[error("LAYOUT is {found}, but must be at least {old}, the old volume's layout")]
     LowerLayout {
         found: u64,
         old: u64,
     },
-    #[error("SLOTS is {found}, and {least} to {most} are allowed")]
+    #[error("SLOTS is {found}, but must be {least} to {most}")]
     Slots {
         found: u64,
         least: u64,
         most: u64,
     },
-    #[error("BLOCKS is {0}, and 4 to 16777216 are allowed")]
+    #[error("BLOCKS is {0}, but must be 4 to 16777216")]
     Blocks(u64),
-    #[error("{0} files are asked for, and 1 to 64 are allowed")]
+    #[error("a volume must have 1 to 64 files, not {0}")]
     FileCount(usize),
     #[error("the name {0:?} isn't 1 to 32 characters from ! to ~")]
     Name(&'a str),
     #[error("two files have the name {0:?}")]
     SameName(&'a str),
-    #[error("the length of {0:?} is 0, and lengths begin at 1")]
+    #[error("the length of {0:?} is 0, but must be at least 1")]
     NoLength(&'a str),
-    #[error("the capacity of {0:?} is 0, and capacities begin at 1")]
+    #[error("the capacity of {0:?} is 0, but must be at least 1")]
     NoCapacity(&'a str),
-    #[error("the length of {name:?} is {length}, and its capacity is {capacity}")]
+    #[error("the length of {name:?} is {length}, which exceeds its capacity {capacity}")]
     TooLong {
         name: &'a str,
         length: u64,
@@ -66,26 +66,26 @@ pub enum Cause<'a> {
     },
     #[error("the volume would have more than 4294967295 blocks")]
     TooManyBlocks,
-    #[error("the file has {0} bytes, and a volume has 4096 at least")]
+    #[error("the file has {0} bytes, but a volume has at least 4096")]
     TooShort(u64),
     #[error("the file doesn't begin with FAMSYNC1, FAMSYNC2, FAMSYNC3 or FAMSYNC4")]
     Magic,
     #[error("the file doesn't begin with FAMSYNC1, FAMSYNC2, FAMSYNC3, FAMSYNC4, FAMSYNC5 or FAMSYNC6")]
     AnyMagic,
-    #[error("the volume is in layout 5 or 6, which this command doesn't serve")]
+    #[error("the volume is in layout 5 or 6, which this command doesn't accept")]
     HasLog,
-    #[error("the super block breaks the format")]
+    #[error("the super block is invalid")]
     SuperBlock,
-    #[error("the file has {found} bytes, and its super block says {wanted}")]
+    #[error("the file has {found} bytes, but its super block requires {wanted}")]
     CutOff {
         found: u64,
         wanted: u64,
     },
-    #[error("the descriptor of an open journal breaks the format, or two journals have one mark")]
+    #[error("the descriptor of an open journal is invalid, or two journals have the same mark")]
     Journal,
-    #[error("the descriptor of an open journal or the lengths break the format, or two journals have one mark")]
+    #[error("the descriptor of an open journal or the lengths block is invalid, or two journals have the same mark")]
     JournalOrLengths,
-    #[error("the log or the lengths break the format")]
+    #[error("the log or the lengths block is invalid")]
     LogOrLengths,
     #[error("a read, a write or a sync of the file failed")]
     Call,

@@ -19,36 +19,36 @@ pub enum FileFailure<'a> {
     #[error("disk {path:?}: in use by another process")]
     InUse { path: &'a str },
     /// The file of the volume isn't a regular file.
-    #[error("disk {path:?}: it is {kind}, and a volume is a regular file")]
+    #[error("disk {path:?}: it is {kind}, but a volume must be a regular file")]
     NotRegular { path: &'a str, kind: &'a str },
     /// The file of the volume has several names, by which others may use it.
-    #[error("disk {path:?}: the file has {names} names, and one that is written to may have one")]
+    #[error("disk {path:?}: the file has {names} names (hard links), but a file to be written must have only one")]
     SeveralNames { path: &'a str, names: u64 },
     /// Each time the file was locked, the path named another file.
-    #[error("disk {path:?}: the file is replaced again and again")]
+    #[error("disk {path:?}: another process keeps replacing the file")]
     Replaced { path: &'a str },
     /// The file in which a new volume is made exists already.
-    #[error("disk {path:?}: {new:?} is there already: if no other format is at work, remove it")]
+    #[error("disk {path:?}: {new:?} already exists: remove it, unless another format is running")]
     NewIsThere { path: &'a str, new: String },
     /// The volume has no file of this name.
     #[error("disk {path:?}: it has no file {file:?}")]
     NoFile { path: &'a str, file: &'a str },
     /// A copy would replace something that isn't a regular file.
-    #[error("file {path:?}: it is {kind}, and a copy replaces a regular file alone")]
+    #[error("file {path:?}: it is {kind}, but a copy can replace only a regular file")]
     NotReplaced { path: &'a str, kind: &'a str },
     /// A copy would replace the file of the volume.
-    #[error("file {path:?}: it is the file of the volume")]
+    #[error("file {path:?}: it is the volume's file")]
     SameFile { path: &'a str },
     /// A copy would replace a file that another process has locked.
     #[error("file {path:?}: in use by another process")]
     CopyInUse { path: &'a str },
     /// The file in which a copy is made exists already.
-    #[error("file {path:?}: {new:?} is there already: if no other export is at work, remove it")]
+    #[error("file {path:?}: {new:?} already exists: remove it, unless another export is running")]
     CopyIsThere { path: &'a str, new: String },
     // Rule: suspect volume: If a volume's file can't be synced, the volume is flagged. A flagged volume is opened only
     // with `--trust`.
     /// The volume is flagged, because a sync of its file failed.
-    #[error("disk {path:?}: {mark:?} says that a sync of it failed, so what is read of it may not be on the disk: compare it with a copy, and give --trust or format it")]
+    #[error("disk {path:?}: {mark:?} exists because a sync failed, so the disk may lack data that can be read: compare the volume with a copy, then use --trust, or format it")]
     Suspect { path: &'a str, mark: String },
     /// The file of the volume couldn't be synced when it was opened.
     #[error("disk {path:?}: the file can't be synced: {cause}")]

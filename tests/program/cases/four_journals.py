@@ -82,10 +82,10 @@ b 4096
 000000000000 43 00 00 00 00 00 00 00 00 00 00 00 00 00 00 00
 """
 
-SPOILT = "damaged: the super block breaks the format"
+SPOILT = "damaged: the super block is invalid"
 
 SPOILT_JOURNAL = (
-    "damaged: the descriptor of an open journal or the lengths break the format, or two journals have one mark"
+    "damaged: the descriptor of an open journal or the lengths block is invalid, or two journals have the same mark"
 )
 
 # What is changed in the image of the volume of layout 4, and the fault then.
@@ -203,8 +203,8 @@ def a_frame_less_is_served():
     yield from complains(
         "run|frames_four.img|frames_four.json",
         3,
-        'disk "frames_four.img": badshape: frames is 4, and 1 to 3 are served, '
-        "as the volume has 3 record slots and one for the lengths\n",
+        'disk "frames_four.img": badshape: frames is 4, but must be 1 to 3: '
+        "the volume has 3 record slots and one for the lengths\n",
     )
     yield from leaves("frames_four.img", "frames_four.json")
 

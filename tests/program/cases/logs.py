@@ -95,8 +95,8 @@ BOTH_AS_JSON = (
     '{"length":4096,"name":"b"}\n{"bytes":"42000000000000000000000000000000","offset":0}\n'
 )
 
-SPOILT = "damaged: the super block breaks the format"
-SPOILT_LOG = "damaged: the log or the lengths break the format"
+SPOILT = "damaged: the super block is invalid"
+SPOILT_LOG = "damaged: the log or the lengths block is invalid"
 
 # What is changed in the image of the volume of layout 5, and the fault then.
 SPOILT_IMAGES = [
@@ -129,10 +129,10 @@ BAD_WORDS = [
     ("format|--layout|5|none.img|a=1|b=5/", 'FILE is "b=5/"'),
     ("format|--layout|5|--log|4x|none.img|a=1", 'BLOCKS is "4x"'),
     ("format|--layout|5|--log=|none.img|a=1", 'BLOCKS is ""'),
-    ("format|--layout|4|--log|4|none.img|4|a=1", "--log is for layouts 5 and 6, and LAYOUT is 4"),
-    ("format|--log|4|none.img|4|a=1", "--log is for layouts 5 and 6, and LAYOUT is 1"),
-    ("format|--layout|5|--key|0123456789abcdef|none.img|a=1", "--key is for layout 6, and LAYOUT is 5"),
-    ("format|--layout|3|--key|0123456789abcdef|none.img|4|a=1", "--key is for layout 6, and LAYOUT is 3"),
+    ("format|--layout|4|--log|4|none.img|4|a=1", "--log is only for layouts 5 and 6, but LAYOUT is 4"),
+    ("format|--log|4|none.img|4|a=1", "--log is only for layouts 5 and 6, but LAYOUT is 1"),
+    ("format|--layout|5|--key|0123456789abcdef|none.img|a=1", "--key is only for layout 6, but LAYOUT is 5"),
+    ("format|--layout|3|--key|0123456789abcdef|none.img|4|a=1", "--key is only for layout 6, but LAYOUT is 3"),
     ("format|--layout|6|--key|0123456789abcde|none.img|a=1", 'KEY is "0123456789abcde"'),
     ("format|--layout|6|--key|0123456789abcdefa|none.img|a=1", 'KEY is "0123456789abcdefa"'),
     ("format|--layout|6|--key|+123456789abcdef|none.img|a=1", 'KEY is "+123456789abcdef"'),
@@ -141,10 +141,10 @@ BAD_WORDS = [
 
 # Volumes with a log that aren't made, and the fault of each.
 REFUSALS = [
-    ("format|--layout|5|--log|3|none.img|a=1", "BLOCKS is 3, and 4 to 16777216 are allowed\n"),
-    ("format|--layout|6|--log|16777217|none.img|a=1", "BLOCKS is 16777217, and 4 to 16777216 are allowed\n"),
-    ("format|--layout|5|none.img|a=0", 'the capacity of "a" is 0, and capacities begin at 1\n'),
-    ("format|--layout|5|none.img|a=6/5", 'the length of "a" is 6, and its capacity is 5\n'),
+    ("format|--layout|5|--log|3|none.img|a=1", "BLOCKS is 3, but must be 4 to 16777216\n"),
+    ("format|--layout|6|--log|16777217|none.img|a=1", "BLOCKS is 16777217, but must be 4 to 16777216\n"),
+    ("format|--layout|5|none.img|a=0", 'the capacity of "a" is 0, but must be at least 1\n'),
+    ("format|--layout|5|none.img|a=6/5", 'the length of "a" is 6, which exceeds its capacity 5\n'),
     ("format|--layout|5|none.img|a=1|a=2", 'two files have the name "a"\n'),
     ("format|--layout|5|none.img|a=18446744073709551615", "the volume would have more than 4294967295 blocks\n"),
 ]
@@ -229,7 +229,7 @@ PROGRAMS = (
 
 # The volume in layout 4 that shows a log of 9 blocks has 7 record slots.
 TOO_MANY_FRAMES = (
-    'disk "log.img": badshape: frames is 7, and 1 to 6 are served, as the volume has 6 record slots and one for the '
+    'disk "log.img": badshape: frames is 7, but must be 1 to 6: the volume has 6 record slots and one for the '
     "lengths\n"
 )
 
@@ -355,7 +355,7 @@ def images_with_a_log_are_refused():
             yield from complains(line, 3, f'disk "spoilt.img": {cause}\n')
         yield from holds("spoilt.img", image)
     write_bytes("spoilt.img", image_of_five()[:69_632])
-    cut = "damaged: the file has 69632 bytes, and its super block says 73728"
+    cut = "damaged: the file has 69632 bytes, but its super block requires 73728"
     yield from prints("check|spoilt.img", 3, f"{cut}\n")
     yield from complains("dump|spoilt.img", 3, f'disk "spoilt.img": {cut}\n')
     yield from leaves("spoilt.img")

@@ -42,7 +42,7 @@ NO_VOLUME = (
     "FAMSYNC6\n"
 )
 
-DAMAGED = "damaged: the super block breaks the format"
+DAMAGED = "damaged: the super block is invalid"
 
 
 def a_clean_volume_is_looked_at():
@@ -96,7 +96,7 @@ def a_volume_is_migrated():
     yield from prints("dump|new.img", 0, FIRST_DUMP)
     yield from prints("dump|old.img", 0, FIRST_DUMP)
     yield from complains("migrate|old.img|old.img|4", 3, 'file "old.img": it is the file of the volume')
-    cause = 'disk "other.img": badshape: SLOTS is 1, and 2 to 1020 are allowed'
+    cause = 'disk "other.img": badshape: SLOTS is 1, but must be 2 to 1020'
     yield from complains("migrate|old.img|other.img|1", 3, cause)
     yield from leaves("byte.json", "old.img", "new.img")
 

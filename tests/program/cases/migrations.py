@@ -38,33 +38,33 @@ a 4097
 b 4096
 """
 
-DOWN = "disk \"none.img\": badshape: LAYOUT is 3, and a volume in layout 4 isn't migrated to a lower one\n"
+DOWN = "disk \"none.img\": badshape: LAYOUT is 3, but must be at least 4, the old volume's layout\n"
 
 # What migrations of a volume of layout 2 are refused, and the fault of each.
 REFUSALS = [
-    ("migrate|--layout|0|refused.img|no.img|4", "LAYOUT is 0, and a volume is migrated to 3 to 6\n"),
-    ("migrate|--layout|1|refused.img|no.img|4", "LAYOUT is 1, and a volume is migrated to 3 to 6\n"),
-    ("migrate|--layout|2|refused.img|no.img|4", "LAYOUT is 2, and a volume is migrated to 3 to 6\n"),
-    ("migrate|--layout|7|refused.img|no.img|4", "LAYOUT is 7, and a volume is migrated to 3 to 6\n"),
-    ("migrate|--layout|4|refused.img|no.img|0", "SLOTS is 0, and 2 to 65535 are allowed\n"),
-    ("migrate|--layout|4|refused.img|no.img|1", "SLOTS is 1, and 2 to 65535 are allowed\n"),
-    ("migrate|--layout|4|refused.img|no.img|65536", "SLOTS is 65536, and 2 to 65535 are allowed\n"),
-    ("migrate|--layout|3|refused.img|no.img|1021", "SLOTS is 1021, and 2 to 1020 are allowed\n"),
-    ("migrate|refused.img|no.img|65535", "SLOTS is 65535, and 2 to 1020 are allowed\n"),
-    ("migrate|--layout|5|--log|3|refused.img|no.img", "BLOCKS is 3, and 4 to 16777216 are allowed\n"),
-    ("migrate|--layout|6|--log|16777217|refused.img|no.img", "BLOCKS is 16777217, and 4 to 16777216 are allowed\n"),
+    ("migrate|--layout|0|refused.img|no.img|4", "LAYOUT is 0, but must be 3 to 6\n"),
+    ("migrate|--layout|1|refused.img|no.img|4", "LAYOUT is 1, but must be 3 to 6\n"),
+    ("migrate|--layout|2|refused.img|no.img|4", "LAYOUT is 2, but must be 3 to 6\n"),
+    ("migrate|--layout|7|refused.img|no.img|4", "LAYOUT is 7, but must be 3 to 6\n"),
+    ("migrate|--layout|4|refused.img|no.img|0", "SLOTS is 0, but must be 2 to 65535\n"),
+    ("migrate|--layout|4|refused.img|no.img|1", "SLOTS is 1, but must be 2 to 65535\n"),
+    ("migrate|--layout|4|refused.img|no.img|65536", "SLOTS is 65536, but must be 2 to 65535\n"),
+    ("migrate|--layout|3|refused.img|no.img|1021", "SLOTS is 1021, but must be 2 to 1020\n"),
+    ("migrate|refused.img|no.img|65535", "SLOTS is 65535, but must be 2 to 1020\n"),
+    ("migrate|--layout|5|--log|3|refused.img|no.img", "BLOCKS is 3, but must be 4 to 16777216\n"),
+    ("migrate|--layout|6|--log|16777217|refused.img|no.img", "BLOCKS is 16777217, but must be 4 to 16777216\n"),
 ]
 
 # The words that ask for no migration, and the fault of each.
 BAD_WORDS = [
     ("migrate|refused.img|no.img", "the following required arguments were not provided: <SLOTS>"),
-    ("migrate|--layout|5|refused.img|no.img|4", "SLOTS is for layouts 3 and 4, and LAYOUT is 5"),
-    ("migrate|--layout|6|refused.img|no.img|4", "SLOTS is for layouts 3 and 4, and LAYOUT is 6"),
+    ("migrate|--layout|5|refused.img|no.img|4", "SLOTS is only for layouts 3 and 4, but LAYOUT is 5"),
+    ("migrate|--layout|6|refused.img|no.img|4", "SLOTS is only for layouts 3 and 4, but LAYOUT is 6"),
     ("migrate|--layout|5|refused.img|no.img|4|5", "unexpected argument '5' found"),
-    ("migrate|--log|4|refused.img|no.img|4", "--log is for layouts 5 and 6, and LAYOUT is 3"),
-    ("migrate|--layout|4|--log|4|refused.img|no.img|4", "--log is for layouts 5 and 6, and LAYOUT is 4"),
-    ("migrate|--layout|4|--key|0123456789abcdef|refused.img|no.img|4", "--key is for layout 6, and LAYOUT is 4"),
-    ("migrate|--layout|5|--key|0123456789abcdef|refused.img|no.img", "--key is for layout 6, and LAYOUT is 5"),
+    ("migrate|--log|4|refused.img|no.img|4", "--log is only for layouts 5 and 6, but LAYOUT is 3"),
+    ("migrate|--layout|4|--log|4|refused.img|no.img|4", "--log is only for layouts 5 and 6, but LAYOUT is 4"),
+    ("migrate|--layout|4|--key|0123456789abcdef|refused.img|no.img|4", "--key is only for layout 6, but LAYOUT is 4"),
+    ("migrate|--layout|5|--key|0123456789abcdef|refused.img|no.img", "--key is only for layout 6, but LAYOUT is 5"),
     ("migrate|--layout|6|--key|0123456789abcde|refused.img|no.img", 'KEY is "0123456789abcde"'),
     ("migrate|--layout|5|--log|4x|refused.img|no.img", 'BLOCKS is "4x"'),
 ]
@@ -190,7 +190,7 @@ def a_volume_with_a_log_is_no_old_one():
     image = image_with_log(5, files_of(67, 4097, 12_288))
     write_bytes("log.img", image)
     for words in ("migrate|log.img|no.img|4", "migrate|--layout|5|log.img|no.img", "migrate|--layout|6|log.img|no.img"):
-        cause = "notavolume: the volume is in layout 5 or 6, which this command doesn't serve\n"
+        cause = "notavolume: the volume is in layout 5 or 6, which this command doesn't accept\n"
         yield from complains(words, 3, f'disk "log.img": {cause}')
     yield from holds("log.img", image)
     yield from leaves("log.img")

@@ -57,16 +57,16 @@ REPLAYED = [
 
 # Traces, and the fault of each.
 BAD_TRACES = [
-    ([""], "it has no lines, and the first has to be the shape of the machine\n"),
+    ([""], "it has no lines: the first must be the machine's shape\n"),
     (["\n"], "line 1: it isn't JSON: "),
     (["[]"], "line 1: it isn't an object\n"),
     (
         ['{"copies":0,"cpus":1,"frames":4,"tlb":8}'],
-        "line 1: the member \"trace\" isn't there, and cpus, tlb, frames, copies and trace have to be\n",
+        "line 1: the member \"trace\" is missing: cpus, tlb, frames, copies and trace are required\n",
     ),
     (
         ['{"copies":0,"cpus":1,"frames":4,"tlb":8,"trace":1,"steps":[]}'],
-        'line 1: it has a member "steps", and cpus, tlb, frames, copies and trace are allowed\n',
+        'line 1: it has a member "steps", but only cpus, tlb, frames, copies and trace are allowed\n',
     ),
     (
         ['{"copies":0,"cpus":1,"frames":4,"tlb":8,"trace":-1}'],

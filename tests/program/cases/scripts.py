@@ -96,18 +96,18 @@ BAD_SCRIPTS = [
     ("{", "it isn't JSON: "),
     ('{"cpus":1,"tlb":8,"frames":4,"copies":0,"steps":[]} x', "it isn't JSON: "),
     ("[]", "it isn't an object\n"),
-    ("{}", "the member \"cpus\" isn't there, and cpus, tlb, frames, copies and steps have to be\n"),
+    ("{}", "the member \"cpus\" is missing: cpus, tlb, frames, copies and steps are required\n"),
     (
         '{"cpus":1,"tlb":8,"frames":4,"copies":0}',
-        "the member \"steps\" isn't there, and cpus, tlb, frames, copies and steps have to be\n",
+        "the member \"steps\" is missing: cpus, tlb, frames, copies and steps are required\n",
     ),
     (
         '{"cpus":1,"tlb":8,"frames":4,"steps":[]}',
-        "the member \"copies\" isn't there, and cpus, tlb, frames, copies and steps have to be\n",
+        "the member \"copies\" is missing: cpus, tlb, frames, copies and steps are required\n",
     ),
     (
         '{"cpus":1,"tlb":8,"frames":4,"copies":0,"steps":[],"trace":3}',
-        'it has a member "trace", and cpus, tlb, frames, copies and steps are allowed\n',
+        'it has a member "trace", but only cpus, tlb, frames, copies and steps are allowed\n',
     ),
     ('{"cpus":1,"tlb":8,"frames":4,"copies":0,"steps":{}}', "the member \"steps\" isn't a list\n"),
     (
@@ -134,13 +134,13 @@ BAD_SCRIPTS = [
 
 # Members of scripts but for the steps, and the fault of each.
 BAD_SHAPES = [
-    ('"cpus":0,"tlb":8,"frames":4,"copies":0', "cpus is 0, and 1 to 16 are served"),
-    ('"cpus":17,"tlb":8,"frames":4,"copies":0', "cpus is 17, and 1 to 16 are served"),
-    ('"cpus":1,"tlb":0,"frames":4,"copies":0', "tlb is 0, and 1 to 64 are served"),
-    ('"cpus":1,"tlb":65,"frames":4,"copies":0', "tlb is 65, and 1 to 64 are served"),
-    ('"cpus":1,"tlb":8,"frames":4,"copies":65', "copies is 65, and 0 to 64 are served"),
-    ('"cpus":1,"tlb":8,"frames":0,"copies":0', "frames is 0, and 1 to 4 are served, as the volume has 4 record slots"),
-    ('"cpus":1,"tlb":8,"frames":5,"copies":0', "frames is 5, and 1 to 4 are served, as the volume has 4 record slots"),
+    ('"cpus":0,"tlb":8,"frames":4,"copies":0', "cpus is 0, but must be 1 to 16"),
+    ('"cpus":17,"tlb":8,"frames":4,"copies":0', "cpus is 17, but must be 1 to 16"),
+    ('"cpus":1,"tlb":0,"frames":4,"copies":0', "tlb is 0, but must be 1 to 64"),
+    ('"cpus":1,"tlb":65,"frames":4,"copies":0', "tlb is 65, but must be 1 to 64"),
+    ('"cpus":1,"tlb":8,"frames":4,"copies":65', "copies is 65, but must be 0 to 64"),
+    ('"cpus":1,"tlb":8,"frames":0,"copies":0', "frames is 0, but must be 1 to 4: the volume has 4 record slots"),
+    ('"cpus":1,"tlb":8,"frames":5,"copies":0', "frames is 5, but must be 1 to 4: the volume has 4 record slots"),
 ]
 
 

@@ -54,20 +54,20 @@ FOUR = (
 
 # Scripts that are refused before the disk is opened, and the fault of each.
 REFUSED = [
-    ([TWO, '"trace":10,"programs":[[]]}'], "it has 1 programs, and one for each of 2 processors is wanted\n"),
+    ([TWO, '"trace":10,"programs":[[]]}'], "it has 1 programs, but needs one for each of 2 processors\n"),
     (
         [
             '{"cpus":1,"tlb":8,"frames":4,"copies":0,"trace":10,"steps":[[0,"create"],[1,"idle"]],"programs":[[]]}',
         ],
-        "step 2 is of a processor that there isn't, as cpus is 1\n",
+        "step 2 names a processor that doesn't exist: cpus is 1\n",
     ),
     ([TWO, '"trace":10,"programs":[[],[["flush"]]]}'], 'program 2, command 1, ["flush"]: no command has this name\n'),
 ]
 
 # Capacities that no trace has.
 CAPACITIES = [
-    ('"trace":0,', "badshape: trace is 0, and 1 to 1000000 are served\n"),
-    ('"trace":1000001,', "badshape: trace is 1000001, and 1 to 1000000 are served\n"),
+    ('"trace":0,', "badshape: trace is 0, but must be 1 to 1000000\n"),
+    ('"trace":1000001,', "badshape: trace is 1000001, but must be 1 to 1000000\n"),
 ]
 
 

@@ -39,9 +39,9 @@ b 4096
 
 FOREIGN = "notavolume: the file doesn't begin with FAMSYNC1, FAMSYNC2, FAMSYNC3 or FAMSYNC4"
 
-SPOILT = "damaged: the super block breaks the format"
+SPOILT = "damaged: the super block is invalid"
 
-SPOILT_JOURNAL = "damaged: the descriptor of an open journal breaks the format, or two journals have one mark"
+SPOILT_JOURNAL = "damaged: the descriptor of an open journal is invalid, or two journals have the same mark"
 
 # What `dump` says in place of this.
 OF_DUMP = {
@@ -86,9 +86,9 @@ SPOILT_IMAGES = [
 
 # How many bytes of a volume are there, and the fault then.
 CUT_IMAGES = [
-    (0, "notavolume: the file has 0 bytes, and a volume has 4096 at least"),
-    (4095, "notavolume: the file has 4095 bytes, and a volume has 4096 at least"),
-    (36_864, "damaged: the file has 36864 bytes, and its super block says 40960"),
+    (0, "notavolume: the file has 0 bytes, but a volume has at least 4096"),
+    (4095, "notavolume: the file has 4095 bytes, but a volume has at least 4096"),
+    (36_864, "damaged: the file has 36864 bytes, but its super block requires 40960"),
 ]
 
 # A closed gate over any descriptor, an open journal, whose records stand for their home blocks, and a file whose last

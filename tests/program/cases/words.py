@@ -53,29 +53,29 @@ HELP = [
 
 # Command lines, and the fault of each.
 FAULTS = [
-    ("format|none.img|0|a=1", 'disk "none.img": badshape: SLOTS is 0, and 1 to 1020 are allowed\n'),
-    ("format|none.img|1021|a=1", 'disk "none.img": badshape: SLOTS is 1021, and 1 to 1020 are allowed\n'),
-    ("format|--layout|3|none.img|1|a=1", 'disk "none.img": badshape: SLOTS is 1, and 2 to 1020 are allowed\n'),
-    ("format|--layout|3|none.img|1021|a=1", 'disk "none.img": badshape: SLOTS is 1021, and 2 to 1020 are allowed\n'),
-    ("format|--layout|4|none.img|1|a=1", 'disk "none.img": badshape: SLOTS is 1, and 2 to 65535 are allowed\n'),
-    ("format|--layout|4|none.img|65536|a=1", 'disk "none.img": badshape: SLOTS is 65536, and 2 to 65535 are allowed\n'),
+    ("format|none.img|0|a=1", 'disk "none.img": badshape: SLOTS is 0, but must be 1 to 1020\n'),
+    ("format|none.img|1021|a=1", 'disk "none.img": badshape: SLOTS is 1021, but must be 1 to 1020\n'),
+    ("format|--layout|3|none.img|1|a=1", 'disk "none.img": badshape: SLOTS is 1, but must be 2 to 1020\n'),
+    ("format|--layout|3|none.img|1021|a=1", 'disk "none.img": badshape: SLOTS is 1021, but must be 2 to 1020\n'),
+    ("format|--layout|4|none.img|1|a=1", 'disk "none.img": badshape: SLOTS is 1, but must be 2 to 65535\n'),
+    ("format|--layout|4|none.img|65536|a=1", 'disk "none.img": badshape: SLOTS is 65536, but must be 2 to 65535\n'),
     (
         "format|--layout|4|none.img|4|a=0",
-        'disk "none.img": badshape: the capacity of "a" is 0, and capacities begin at 1\n',
+        'disk "none.img": badshape: the capacity of "a" is 0, but must be at least 1\n',
     ),
     (
         "format|--layout|4|none.img|4|a=6/5",
-        'disk "none.img": badshape: the length of "a" is 6, and its capacity is 5\n',
+        'disk "none.img": badshape: the length of "a" is 6, which exceeds its capacity 5\n',
     ),
     (
         "format|--layout|3|none.img|4|a=0",
-        'disk "none.img": badshape: the capacity of "a" is 0, and capacities begin at 1\n',
+        'disk "none.img": badshape: the capacity of "a" is 0, but must be at least 1\n',
     ),
     (
         "format|--layout|3|none.img|4|a=6/5",
-        'disk "none.img": badshape: the length of "a" is 6, and its capacity is 5\n',
+        'disk "none.img": badshape: the length of "a" is 6, which exceeds its capacity 5\n',
     ),
-    ("format|none.img|4|a=0", 'disk "none.img": badshape: the length of "a" is 0, and lengths begin at 1\n'),
+    ("format|none.img|4|a=0", 'disk "none.img": badshape: the length of "a" is 0, but must be at least 1\n'),
     ("format|none.img|4|=1", "disk \"none.img\": badshape: the name \"\" isn't 1 to 32 characters from ! to ~\n"),
     ("format|none.img|4|a=1|a=2", 'disk "none.img": badshape: two files have the name "a"\n'),
     ("format|none.img|4|a b=1", "disk \"none.img\": badshape: the name \"a b\" isn't 1 to 32 characters from ! to ~\n"),
@@ -88,15 +88,15 @@ FAULTS = [
         "format|none.img|4|a=18446744073709551615",
         'disk "none.img": badshape: the volume would have more than 4294967295 blocks\n',
     ),
-    ("format|--layout|7|none.img|4|a=1", 'disk "none.img": badshape: LAYOUT is 7, and 1 to 6 are served\n'),
-    ("format|--layout=0|none.img|4|a=1", 'disk "none.img": badshape: LAYOUT is 0, and 1 to 6 are served\n'),
+    ("format|--layout|7|none.img|4|a=1", 'disk "none.img": badshape: LAYOUT is 7, but must be 1 to 6\n'),
+    ("format|--layout=0|none.img|4|a=1", 'disk "none.img": badshape: LAYOUT is 0, but must be 1 to 6\n'),
     ("format|none/x.img|4|a=1", 'file "none/x.img.new": '),
     ("format|none/x\n.img|4|a=1", 'file "none/x\\n.img.new": '),
     ("run|none.img|none.json", 'file "none.json": '),
     ("run|none.img|fault.json", 'file "none.img": '),
     (
         "run|fault.json|fault.json",
-        'disk "fault.json": notavolume: the file has 51 bytes, and a volume has 4096 at least\n',
+        'disk "fault.json": notavolume: the file has 51 bytes, but a volume has at least 4096\n',
     ),
     ("dump|none.img", 'file "none.img": '),
 ]
@@ -134,7 +134,7 @@ def faults_are_reported():
     write("fault.json", NO_STEPS)
     for line, cause in FAULTS:
         yield from complains(line, 3, cause)
-    cause = 'disk "none.img": badshape: 65 files are asked for, and 1 to 64 are allowed\n'
+    cause = 'disk "none.img": badshape: a volume must have 1 to 64 files, not 65\n'
     yield from complains(format_of_files("none.img|4", 65), 3, cause)
     yield from holds("fault.img", image_of_one())
     yield from leaves("fault.img", "fault.json")

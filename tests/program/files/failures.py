@@ -31,7 +31,7 @@ def cut_files():
     os.truncate("v.img", 20000)
     complains(famsync("run", "v.img", "newer.json"), "damaged")
     complains(famsync("dump", "v.img"), "damaged")
-    complains(famsync("info", "v.img"), "damaged: the file has 20000 bytes, and its super block says 40960")
+    complains(famsync("info", "v.img"), "damaged: the file has 20000 bytes, but its super block requires 40960")
     complains(famsync(*EXPORT), "damaged")
     checked = famsync("check", "v.img")
     damaged = "damaged: the file has 20000 bytes" in checked.out
@@ -76,7 +76,7 @@ def killed_formats():
             want((killed.status == 0) == (call > calls), "it was killed", call, killed)
             found.append(has(OLD, OTHER))
             if os.path.exists("v.img.new"):
-                complains(famsync(*words), '"v.img.new" is there already', "remove it")
+                complains(famsync(*words), '"v.img.new" already exists', "remove it")
                 os.remove("v.img.new")
             want(famsync(*words).status == 0, "and can be made again", call)
             has(OTHER)
@@ -127,7 +127,7 @@ def failed_syncs():
         want(os.path.exists("v.img.suspect"), "the volume is marked", call)
         before = bytes_of("v.img")
         for again in (words, ["dump", "v.img"]):
-            complains(famsync(*again), '"v.img.suspect" says that a sync of it failed', "--trust")
+            complains(famsync(*again), '"v.img.suspect" exists because a sync failed', "--trust")
         want(bytes_of("v.img") == before, "and isn't touched", call)
         trusted = famsync("dump", "--trust", "v.img")
         want(trusted.status == 0 and trusted.out in (OLD, NEWER), "it is dumped if it is trusted", trusted)
@@ -189,7 +189,7 @@ def suspect_volumes():
     write("v.img.suspect", "")
     threads = ["threads", "v.img", f"{TOP}/examples/threads.json"]
     for words in (["dump", "v.img"], ["crashes", "v.img", "old.json"], MIGRATE, threads):
-        complains(famsync(*words), '"v.img.suspect" says that a sync of it failed', "--trust")
+        complains(famsync(*words), '"v.img.suspect" exists because a sync failed', "--trust")
 
 
 def threads_that_fail():

@@ -66,7 +66,7 @@ def migrations():
     image = bytes_of("v.img")
     refuses_its_own_volume(lambda old, new: ["migrate", old, new, "2"])
     for slots in ("0", "1", "1021", str(2**64 - 1)):
-        complains(famsync("migrate", "v.img", "w.img", slots), "badshape: SLOTS is", "2 to 1020 are allowed")
+        complains(famsync("migrate", "v.img", "w.img", slots), "badshape: SLOTS is", "must be 2 to 1020")
     complains(famsync("migrate", "v.img", "w.img", "two"), "SLOTS is", status=2)
     want(not os.path.exists("w.img") and not os.path.exists("w.img.new"), "no file is made")
     want(bytes_of("v.img") == image, "the volume isn't touched")

@@ -78,7 +78,7 @@ def other_kinds():
     for path, kind in kinds.items():
         reads = (["dump", path], ["info", path], ["check", path], ["export", path, "a", "a.copy"])
         for words in (["format", path, "4", "a=1"], ["run", path, "newer.json"], *reads):
-            complains(famsync(*words), path, f"it is {kind}, and a volume is a regular file")
+            complains(famsync(*words), path, f"it is {kind}, but a volume must be a regular file")
         want(not os.path.exists(f"{path}.new"), "no file is made", path)
     place.close()
     # A link is followed, and stays one.
@@ -95,7 +95,7 @@ def other_kinds():
     volume()
     os.link("v.img", "link.img")
     for words in (COMMANDS["format"][0], COMMANDS["run"][0]):
-        complains(famsync(*words), "the file has 2 names, and one that is written to may have one")
+        complains(famsync(*words), "the file has 2 names (hard links), but a file to be written must have only one")
     has(OLD)
     # A link that leads nowhere.
     clear()

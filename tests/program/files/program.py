@@ -142,7 +142,7 @@ def makes_whole_or_nothing(words, new, prepare, found, wanted, judge):
         if how == "kill":
             killed.append(there == wanted)
         if os.path.exists(f"{new}.new"):
-            complains(famsync(*words), f'"{new}.new" is there already', "remove it")
+            complains(famsync(*words), f'"{new}.new" already exists', "remove it")
             os.remove(f"{new}.new")
         want(famsync(*words).status == 0 and found() == wanted, "it can be made again", call, how)
     want(killed == sorted(killed) and set(killed) == {False, True}, "old up to a call, and then new", killed)
@@ -153,8 +153,8 @@ def refuses_its_own_volume(words):
     os.link("v.img", "link.img")
     os.symlink("v.img", "v.img.link")
     for new in ("v.img", "./v.img", "link.img", "v.img.link", os.path.realpath("v.img")):
-        complains(famsync(*words("v.img", new)), "it is the file of the volume")
-        complains(famsync(*words("link.img", new)), "it is the file of the volume")
+        complains(famsync(*words("v.img", new)), "it is the volume's file")
+        complains(famsync(*words("link.img", new)), "it is the volume's file")
     os.remove("link.img")
 
 

@@ -174,7 +174,7 @@ def looks():
     volume()
     write("v.img.suspect", "")
     for words in (["info", "v.img"], ["check", "v.img"], EXPORT):
-        complains(famsync(*words), '"v.img.suspect" says that a sync of it failed', "--trust")
+        complains(famsync(*words), '"v.img.suspect" exists because a sync failed', "--trust")
         want(famsync(words[0], "--trust", *words[1:]).status == 0, "it is trusted", words)
         want(os.path.exists("v.img.suspect"), "and is still marked")
     # Where the sync fails it is marked.
@@ -225,7 +225,7 @@ def exports():
     os.mkdir("place")
     os.mkfifo("tube")
     for out, kind in (("place", "a folder"), ("tube", "a pipe"), ("/dev/null", "a character device")):
-        complains(famsync("export", "v.img", "a", out), f"it is {kind}, and a copy replaces a regular file alone")
+        complains(famsync("export", "v.img", "a", out), f"it is {kind}, but a copy can replace only a regular file")
         want(not os.path.exists(f"{out}.new"), "no file is made", out)
     want(famsync("format", "v.img.2", "2", "c=100").status == 0, "another volume is made")
     other = bytes_of("v.img.2")
