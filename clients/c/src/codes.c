@@ -29,7 +29,8 @@ static const struct {
     {FAMSYNC_EINVAL, "the bytes or the length are outside the file's range"},
     {FAMSYNC_OVERLAP, "plain memory of the file is already open"},
     {FAMSYNC_NOFILE, "the volume has no such file"},
-    {FAMSYNC_BUSY, "a backup is being made, a thread stored during the commit, or no number is left for a commit"},
+    {FAMSYNC_BUSY, "a backup is being made, a thread stored during the commit, or no number is left for a commit or "
+                   "an opening"},
     {FAMSYNC_UNMARKED, "a sync of the volume failed, and its suspect flag couldn't be made"},
     {FAMSYNC_NEEDSOPENING, "a crash or a failed write or sync left work: open the volume for writing once"},
     {FAMSYNC_READONLY, "the session only reads"},

@@ -76,7 +76,8 @@ codes! {
     /// The volume has no such file.
     NoFile = -34,
     /// Memory of the file is open; a backup is being made; a thread stored during a commit, with
-    /// [`kernel_tracking`](crate::Options::kernel_tracking); or the session has made 2^32 - 1 commits.
+    /// [`kernel_tracking`](crate::Options::kernel_tracking); the session has made 2^32 - 1 commits; or,
+    /// in layouts 5 and 6, no number is left for another opening.
     Busy = -35,
     /// A sync failed, and the volume's suspect flag couldn't be made; [`Error::system`] has the cause of the sync's
     /// failure.
