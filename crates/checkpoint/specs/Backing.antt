@@ -1,5 +1,5 @@
--- Each present entry of the page tables maps a frame that contains its page. The entry is writable only if the rights of
--- the mapping allow it. No entry lets a store reach a frozen page.
+-- Each present entry of the page tables maps a frame that contains its page. The entry is writable only if the mapping
+-- allows it. No entry lets a store reach a frozen page.
 use Rattle.std.specs.Prelude.{ℕ, ◌≡◌, ◌<◌, true, false, Some}
 use Rattle.page_entry.specs.Entry.{Mapped}
 use Rattle.page_entry.specs.declared.numbers.FilePage.{FilePage}
