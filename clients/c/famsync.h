@@ -99,8 +99,9 @@ enum famsync_code {
     FAMSYNC_BUSY = -35,    /* From famsync_backup: another backup is being made. From
                               famsync_msync: the session has made 2^32 - 1 commits, or a thread
                               stored to plain memory during the commit (only with
-                              FAMSYNC_TRACK_KERNEL). From famsync_open, in layouts 5 and 6: no
-                              number is left for another opening (at most 2^64 - 1 openings). */
+                              FAMSYNC_TRACK_KERNEL). From famsync_open and famsync_rollback, in
+                              layouts 5 and 6: no number is left for another opening (a volume
+                              allows at most 2^64 - 1 openings). */
 
     /* the suspect flag (see famsync_msync), and sessions that only read */
     FAMSYNC_UNMARKED = -39,     /* a sync failed, and the library couldn't make the suspect flag
