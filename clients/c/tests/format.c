@@ -202,7 +202,7 @@ static void bad_logs(unsigned layout)
         is_refused(&plan, "4 to");
         plan = plan_of(layout, 20, 1);
         plan.slots = 20;
-        is_refused(&plan, "no slots");
+        is_refused(&plan, "instead of slots");
     }
     if (layout != 6) {
         plan = plan_of(layout, 20, 1);
@@ -242,7 +242,7 @@ static void refusals(void)
         bad_files(layout, (struct famsync_new_file){"two words", 1, 0}, "name");
         bad_files(layout, (struct famsync_new_file){"caf\xc3\xa9", 1, 0}, "name");
         bad_files(layout, (struct famsync_new_file){"123456789012345678901234567890123", 1, 0}, "name");
-        bad_files(layout, (struct famsync_new_file){"a", 0, 0}, "byte");
+        bad_files(layout, (struct famsync_new_file){"a", 0, 0}, "at least 1");
         bad_files(layout, (struct famsync_new_file){"a", 2, 1}, "capacity");
         bad_files(layout, (struct famsync_new_file){"a", UINT64_MAX, 0}, "blocks");
         bad_files(layout, (struct famsync_new_file){"a", (uint64_t)UINT32_MAX * 4096, 0}, "blocks");
@@ -250,12 +250,12 @@ static void refusals(void)
             bad_files(layout, (struct famsync_new_file){"a", 1, 2}, "layout");
         files[0] = files[1] = (struct famsync_new_file){"a", 1, 0};
         plan = plan_of(layout, 20, 2);
-        is_refused(&plan, "one name");
+        is_refused(&plan, "same name");
     }
     plan = plan_of(3, 1, 1);
     is_refused(&plan, "slots");
     plan = plan_of(7, 20, 1);
-    is_refused(&plan, "layouts");
+    is_refused(&plan, "layout must be");
     plan = plan_of(4, 20, 1);
     plan.size = offsetof(struct famsync_plan, log); /* as an older program has it, whose bytes behind are others */
     plan.log = 5;

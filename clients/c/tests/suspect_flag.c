@@ -214,7 +214,7 @@ static void long_names(void)
             WANT_CODE(famsync_close(handle), FAMSYNC_OK);
         } else {
             WANT_CODE(famsync_open(path, &options, &handle), FAMSYNC_SYSTEM);
-            WANT(errno == ENAMETOOLONG && strstr(message, "can't be seen: File name too long") != NULL);
+            WANT(errno == ENAMETOOLONG && strstr(message, ".suspect\": File name too long") != NULL);
         }
         WANT(rename(path, volume) == 0);
     }

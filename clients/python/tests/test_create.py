@@ -53,12 +53,12 @@ class Creating(InAFolder):
     def test_is_refused(self):
         for files, how, why in (
             ({}, {}, "1 to 64 files"),
-            ({"a": 0}, {}, "byte"),
+            ({"a": 0}, {}, "at least 1"),
             ({"a b": 1}, {}, "name"),
             ({"a": (2, 1)}, {}, "capacity"),
             ({"a": 1 << 63}, {}, "blocks"),
-            ({"a": 1}, {"layout": 7}, "layouts"),
-            ({"a": 1}, {"layout": 5, "slots": 20}, "no slots"),
+            ({"a": 1}, {"layout": 7}, "layout must be"),
+            ({"a": 1}, {"layout": 5, "slots": 20}, "instead of slots"),
             ({"a": 1}, {"layout": 5, "log": 3}, "4 to"),
             ({"a": 1}, {"layout": 5, "log": 0}, "log"),
             ({"a": 1}, {"layout": 5, "key": 1}, "key"),
