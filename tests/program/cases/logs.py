@@ -149,7 +149,7 @@ REFUSALS = [
     ("format|--layout|5|none.img|a=18446744073709551615", "the volume would have more than 4294967295 blocks\n"),
 ]
 
-NOT_SERVED = 'disk "log.img": notavolume: the volume is in layout 5 or 6, which this command doesn\'t serve\n'
+NOT_SERVED = 'disk "log.img": notavolume: the volume is in layout 5 or 6, which this command doesn\'t accept\n'
 
 NO_STEPS = '{{"cpus":1,"tlb":8,"frames":{},"copies":0,"steps":[]}}'
 

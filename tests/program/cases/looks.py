@@ -55,7 +55,7 @@ def a_clean_volume_is_looked_at():
     yield from prints("export|clean.img|b|b.copy", 0, "exported 4096 bytes\n")
     yield from holds("b.copy", bytes(4096))
     yield from complains("export|clean.img|c|b.copy", 3, 'disk "clean.img": it has no file "c"')
-    yield from complains("export|clean.img|a|clean.img", 3, 'file "clean.img": it is the file of the volume')
+    yield from complains("export|clean.img|a|clean.img", 3, "file \"clean.img\": it is the volume's file")
     yield from prints("format|--json|clean.img|4|a=5000|b=4096", 0, '{"blocks":10}\n')
     yield from leaves("clean.img", "b.copy")
 
@@ -95,7 +95,7 @@ def a_volume_is_migrated():
     yield from prints("migrate|old.img|new.img|1020", 0, "migrated 2049 blocks\n")
     yield from prints("dump|new.img", 0, FIRST_DUMP)
     yield from prints("dump|old.img", 0, FIRST_DUMP)
-    yield from complains("migrate|old.img|old.img|4", 3, 'file "old.img": it is the file of the volume')
+    yield from complains("migrate|old.img|old.img|4", 3, "file \"old.img\": it is the volume's file")
     cause = 'disk "other.img": badshape: SLOTS is 1, but must be 2 to 1020'
     yield from complains("migrate|old.img|other.img|1", 3, cause)
     yield from leaves("byte.json", "old.img", "new.img")
