@@ -226,9 +226,15 @@ bool open_pages(famsync_memory *memory, size_t first, size_t end)
     return opened;
 }
 
+/* A page that has a note may be closed all the same, as a commit that failed closes it. */
 bool open_unstored(famsync_memory *memory, size_t page)
 {
-    return memory->dirty[page] != CLOSED || make_writable(memory, page, page + 1);
+    unsigned char note = memory->dirty[page];
+    if (!make_writable(memory, page, page + 1))
+        return false;
+    if (note == STORED)
+        memory->dirty[page] = STORED;
+    return true;
 }
 
 /* Opens the page that was stored to, unless it lies past the file's end, and maybe some behind it. */

@@ -115,8 +115,8 @@ void give(famsync *handle);
 
 /* Opens pages for writing. All of them count as stored to. The caller holds `closing`. */
 bool open_pages(famsync_memory *memory, size_t first, size_t end);
-/* Opens a page for writing. The page counts as stored to if its bytes differ from the committed
-   bytes. */
+/* Opens a page for writing. If the page didn't count as stored to before, it counts once its bytes
+   differ from the committed bytes. */
 bool open_unstored(famsync_memory *memory, size_t page);
 
 /* Enters a memory in the table of the handler of SIGSEGV. Installs the handler if it isn't

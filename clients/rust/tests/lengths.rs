@@ -3,7 +3,7 @@
 mod volumes;
 
 use famsync::{Code, Options, Volume};
-use volumes::make_volume;
+use volumes::{layouts_with_log, make_volume};
 
 fn length(volume: &Volume, name: &str) -> u64 {
     volume.files().find(|file| file.name == name).unwrap().length
@@ -99,4 +99,32 @@ fn what_keeps_its_length() {
         assert_eq!(volume.set_length("a", 4000).unwrap_err().code(), Code::Einval);
         assert_eq!(length(&volume, "a"), 5000);
     }
+}
+
+#[test]
+fn a_file_is_resized_after_a_commit_that_failed() {
+    for layout in [4].into_iter().chain(layouts_with_log()) {
+        resizes_after_failure(layout, false);
+        resizes_after_failure(layout, true);
+    }
+}
+
+fn resizes_after_failure(layout: u8, kernel_tracking: bool) {
+    let made = make_volume(layout, 5, "a=40910/81920");
+    let opened = Options::new().kernel_tracking(kernel_tracking).open(made.path());
+    if matches!(&opened, Err(error) if error.code() == Code::Tracking) {
+        return;
+    }
+    let mut volume = opened.unwrap();
+    volume.memory_mut("a").unwrap().chunks_mut(4096).for_each(|page| page[0] = 1);
+    assert_eq!(volume.commit().unwrap_err().code(), Code::NoFrame);
+    volume.resize("a", 40970).unwrap();
+    assert_eq!(volume.commit().unwrap_err().code(), Code::NoFrame);
+    volume.resize("a", 8292).unwrap();
+    volume.commit().unwrap();
+    drop(volume);
+
+    let volume = Volume::open(made.path()).unwrap();
+    let a = volume.memory("a").unwrap();
+    assert!(a.len() == 8292 && a.chunks(4096).all(|page| page[0] == 1 && page[1..].iter().all(|byte| *byte == 0)));
 }
