@@ -285,11 +285,22 @@ static void forget_notes(famsync_memory *memory, size_t end)
         memory->open = (struct span){0, 0};
 }
 
+/* Sets the bytes of a page to zeros from an offset on, if that lies within a page. Where the kernel tracks stores, it
+   notes those that were made before, and not this one. */
+static void clear_rest(famsync_memory *memory, size_t from)
+{
+    size_t page = from / memory->grain, rest = pages_for(memory, from) * memory->grain - from;
+    bool ignores = rest > 0 && memory->handle->is_tracked && collect_among(memory, page, page + 1) == FAMSYNC_OK;
+    memset(memory->at + from, 0, rest);
+    if (ignores)
+        (void)ignore_stores(memory, page, page + 1);
+}
+
 /* The file has a length from now on. Its last page has zeros from an offset on, if that lies within a page. */
 static void set_end(famsync_memory *memory, size_t from, size_t length)
 {
     size_t pages = pages_for(memory, length);
-    memset(memory->at + from, 0, pages_for(memory, from) * memory->grain - from);
+    clear_rest(memory, from);
     forget_notes(memory, pages);
     memory->length = length;
     if (pages > memory->pages)
@@ -297,10 +308,13 @@ static void set_end(famsync_memory *memory, size_t from, size_t length)
     memory->pages = pages;
 }
 
-void clear_closed_end(famsync_memory *memory)
+int clear_closed_end(famsync_memory *memory)
 {
-    if (!is_end_clear(memory) && (memory->handle->is_tracked || open_unstored(memory, memory->pages - 1)))
-        clear_end(memory);
+    size_t last = memory->pages - 1;
+    if (is_end_clear(memory) || (!memory->handle->is_tracked && !open_unstored(memory, last)))
+        return FAMSYNC_OK;
+    clear_end(memory);
+    return memory->handle->is_tracked ? ignore_stores(memory, last, last + 1) : FAMSYNC_OK;
 }
 
 /* Behind the process's own pages, which are given back, are the home blocks. What is noted becomes zeros. */
@@ -346,8 +360,9 @@ int begin_memory_again(famsync_memory *memory, size_t length)
     memory->pages = pages;
     atomic_store(&memory->handle->file[memory->file].length, length);
     if (memory->home)
-        clear_closed_end(memory);
-    return FAMSYNC_OK;
+        code = clear_closed_end(memory);
+    /* the kernel doesn't track pages that lay past the end: it would count a load as a store */
+    return code == FAMSYNC_OK && memory->handle->is_tracked ? ignore_stores(memory, 0, pages) : code;
 }
 
 /* Opens the page of the end from which on bytes become zeros, if that lies within one. */

@@ -76,8 +76,9 @@ void *anonymous(size_t room);
    zeros; the page has to be open. */
 bool is_end_clear(const famsync_memory *memory);
 void clear_end(famsync_memory *memory);
-/* Sets the same bytes to zeros if the page is closed. The caller holds `closing`. */
-void clear_closed_end(famsync_memory *memory);
+/* Sets the same bytes to zeros if the page is closed. That doesn't count as a store. The caller
+   holds `closing`. */
+int clear_closed_end(famsync_memory *memory);
 
 /* stores.c: `lock_pages` blocks all signals and takes `closing`. `unlock_pages` releases `closing`
    and restores the blocked signals. */
@@ -104,8 +105,10 @@ void keep_no_more(famsync_memory *memory, size_t first, size_t end);
    its last call. */
 int track(famsync_memory *memory);
 int collect(famsync_memory *memory);
-/* Does the same as `collect` for some pages. */
+/* Does the same as `collect` for some pages. After `ignore_stores` the earlier stores to some pages
+   don't count: the library made them. */
 int collect_among(famsync_memory *memory, size_t first, size_t end);
+int ignore_stores(famsync_memory *memory, size_t first, size_t end);
 
 /* faults.c: takes and releases the lock `closing`, which guards the opening and closing of pages.
    Its holder blocks all signals and never waits. So the handler of SIGSEGV may wait for this

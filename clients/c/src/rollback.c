@@ -113,9 +113,7 @@ static int undo_mapped(famsync_memory *memory)
 {
     int code = for_runs(memory, memory->dirty, memory->open, undo_run);
     memory->open = (struct span){0, 0};
-    if (code == FAMSYNC_OK)
-        clear_closed_end(memory);
-    return code;
+    return code == FAMSYNC_OK ? clear_closed_end(memory) : code;
 }
 
 /* Pages that were stored to are those of the last commit again; if lengths or pages of the core are undone, all are. */

@@ -101,11 +101,16 @@ int collect_among(famsync_memory *memory, size_t first, size_t end)
     return collect_span(memory, first, end, true);
 }
 
+int ignore_stores(famsync_memory *memory, size_t first, size_t end)
+{
+    return collect_span(memory, first, end, false);
+}
+
 /* What the library stored to the memory before doesn't count. */
 int track(famsync_memory *memory)
 {
     struct uffdio_register range = {.range = {(uintptr_t)memory->at, memory->room}, .mode = UFFDIO_REGISTER_MODE_WP};
     if (ioctl(memory->handle->tracker.faults, UFFDIO_REGISTER, &range) != 0)
         return FAMSYNC_TRACKING;
-    return collect_span(memory, 0, memory->pages, false) == FAMSYNC_OK ? FAMSYNC_OK : FAMSYNC_TRACKING;
+    return ignore_stores(memory, 0, memory->pages) == FAMSYNC_OK ? FAMSYNC_OK : FAMSYNC_TRACKING;
 }

@@ -244,6 +244,79 @@ static void lengths(void)
     WANT_CODE(famsync_close(handle), FAMSYNC_OK);
 }
 
+static volatile unsigned char loaded; /* a load whose byte nobody uses may be left out */
+
+/* Loads of all pages aren't stores; and then one page can be stored to for each frame, and committed. */
+static void want_unstored(famsync *handle, famsync_memory *memory)
+{
+    volatile unsigned char *at = famsync_memory_at(memory);
+    unsigned frames = famsync_frames(handle);
+    size_t pages = (famsync_memory_length(memory) + 4095) / 4096;
+    for (size_t page = 0; page < pages; page++)
+        loaded = at[page * 4096];
+    WANT(famsync_memory_dirty(memory) == 0);
+    for (size_t page = 0; page < frames && page < pages; page++)
+        at[page * 4096]++;
+    WANT(famsync_memory_dirty(memory) == (frames < pages ? frames : pages));
+    WANT_CODE(famsync_msync(handle, NULL), FAMSYNC_OK);
+}
+
+/* What a rollback stores itself doesn't count: neither where it gives pages back to a file of many, nor where it clears
+   the end of the last page. */
+static void rolled_back(unsigned layout)
+{
+    make_volume_of(layout, 16, has_lengths(layout) ? "a=10000000 b=4096" : "a=10000000 b=4000");
+    famsync *handle = opened_with(options);
+    WANT_CODE(famsync_write(handle, 0, 5000000, "a", 1, NULL), FAMSYNC_OK);
+    if (has_lengths(layout))
+        WANT_CODE(famsync_setlength(handle, "a", 5000), FAMSYNC_OK);
+    famsync_memory *memory = memory_of(handle, "a");
+    unsigned char *at = famsync_memory_at(memory);
+    for (unsigned round = 0; round < 3; round++) {
+        WANT_CODE(famsync_rollback(handle), FAMSYNC_OK);
+        WANT(famsync_memory_length(memory) == 10000000 && at[5000000] == 0);
+        want_unstored(handle, memory);
+        at[9999999] = at[5000000] = at[4096] = 9;
+        if (round == 1)
+            WANT_CODE(famsync_write(handle, 1, 0, "b", 1, NULL), FAMSYNC_OK);
+        if (round == 1 && has_lengths(layout))
+            WANT_CODE(famsync_setlength(handle, "a", 5000), FAMSYNC_OK);
+    }
+    WANT_CODE(famsync_memory_close(memory), FAMSYNC_OK);
+    WANT_CODE(famsync_close(handle), FAMSYNC_OK);
+}
+
+/* The same for a file whose last page has other bytes past the end, in its home block. */
+static void rolled_back_at_end(unsigned layout)
+{
+    unsigned char page[4096];
+    memset(page, 'x', sizeof page);
+    make_volume_of(layout, 2, "a=8192 b=4096");
+    famsync *handle = opened_with(options);
+    WANT(famsync_frames(handle) == 1);
+    WANT_CODE(famsync_write(handle, 1, 0, page, sizeof page, NULL), FAMSYNC_OK);
+    WANT_CODE(famsync_msync(handle, NULL), FAMSYNC_OK);
+    famsync_memory *memory = memory_of(handle, "b");
+    unsigned char *at = famsync_memory_at(memory);
+    for (size_t length = 99; length > 95; length--) {
+        WANT_CODE(famsync_setlength(handle, "b", length), FAMSYNC_OK);
+        WANT(famsync_memory_dirty(memory) == 0 && is_all(at, length, 'x') && is_all(at + length, 4096 - length, 0));
+        WANT_CODE(famsync_write(handle, 0, 0, page, 1, NULL), FAMSYNC_OK);
+        WANT_CODE(famsync_msync(handle, NULL), FAMSYNC_OK);
+        if (length % 2 == 0)
+            at[5] = 'y';
+        else
+            WANT_CODE(famsync_write(handle, 0, 0, "y", 1, NULL), FAMSYNC_OK);
+        WANT_CODE(famsync_rollback(handle), FAMSYNC_OK);
+        WANT(is_all(at, length, 'x') && is_all(at + length, 4096 - length, 0));
+        WANT(famsync_memory_dirty(memory) == 0);
+        WANT_CODE(famsync_write(handle, 0, 4096, page, 1, NULL), FAMSYNC_OK);
+        WANT_CODE(famsync_msync(handle, NULL), FAMSYNC_OK);
+    }
+    WANT_CODE(famsync_memory_close(memory), FAMSYNC_OK);
+    WANT_CODE(famsync_close(handle), FAMSYNC_OK);
+}
+
 int main(void)
 {
     if (!is_supported()) {
@@ -252,8 +325,12 @@ int main(void)
     }
     forbidden();
     arguments();
-    for (unsigned layout = 1; layout <= LAYOUTS; layout++)
+    for (unsigned layout = 1; layout <= LAYOUTS; layout++) {
         stores(layout);
+        rolled_back(layout);
+        if (has_lengths(layout))
+            rolled_back_at_end(layout);
+    }
     two_volumes();
     forked();
     disturbed();
