@@ -1,6 +1,6 @@
 # Completion of famsync for bash: source it, or put it into a folder of bash-completion as `famsync`.
 # tests/program/help compares these words with --help.
-# words: format migrate run threads serve replay dump info check export crashes help --help --version --layout --log --key --preallocate --trust --json --html
+# words: format migrate run threads serve replay dump info check export crashes help --help --version --layout --log --key --replace --preallocate --trust --json --html
 
 _famsync() {
     local word=${COMP_WORDS[COMP_CWORD]} command=${COMP_WORDS[1]:-} words=
@@ -13,7 +13,7 @@ _famsync() {
         [ "$command" != migrate ] || words='3 4 5 6'
     elif [[ $word == -* ]]; then
         case $command in
-        format) words='--layout --log --key --preallocate --json --help' ;;
+        format) words='--layout --log --key --replace --preallocate --json --help' ;;
         run | threads | serve | replay) words='--trust --help' ;;
         migrate) words='--layout --log --key --preallocate --trust --json --help' ;;
         dump | info | check | export) words='--trust --json --help' ;;

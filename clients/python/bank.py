@@ -4,7 +4,7 @@
 usage: bank.py VOLUME [TRANSFERS]    makes transfers, for ever without a number, and prints each that is acknowledged
        bank.py VOLUME --check        prints the sum and how many transfers were made; status 1 where the sum isn't 0
 
-The volume has a file `bank`: famsync format --layout 5 VOLUME bank=8192. Its first 8 bytes count the transfers,
+The volume has a file `bank`: famsync format VOLUME bank=8192. Its first 8 bytes count the transfers,
 each further 8 bytes are an account.
 """
 

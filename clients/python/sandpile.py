@@ -4,7 +4,7 @@
 usage: sandpile.py VOLUME [GRAINS]    drops grains, for ever without a number, and prints each that is acknowledged
        sandpile.py VOLUME --check     prints how many grains were dropped, lie and fell off; status 1 if that is wrong
 
-The volume has a file `pile`: famsync format --layout 5 VOLUME pile=36864. Its first two numbers of 8 bytes count
+The volume has a file `pile`: famsync format VOLUME pile=36864. Its first two numbers of 8 bytes count
 the grains that were dropped and that fell off. From byte 4096 on there are 64 rows of 64 numbers: the grains of each
 place. A place with four grains topples, and each of its neighbours gets one of them. If a grain sets off more than 500
 topplings, all of that is rolled back, and the grain isn't dropped.

@@ -1,5 +1,5 @@
 /* Accounts whose sum stays what it is, whatever happens to the machine in the middle of a transfer.
-   usage: accounts VOLUME [TRANSFERS]      a volume made by: famsync format --layout 5 VOLUME bank=8192 */
+   usage: accounts VOLUME [TRANSFERS]      a volume made by: famsync format VOLUME bank=8192 */
 #include <famsync.h>
 #include <stdio.h>
 #include <stdlib.h>

@@ -1,5 +1,5 @@
 /* The example of the README as a program, which never ends: kill it, and look at the volume with `famsync dump`.
-   A volume for it: famsync format --layout 5 bank.vol bank=8192 */
+   A volume for it: famsync format bank.vol bank=8192 */
 #include <famsync.h>
 
 int main(void)

@@ -1,6 +1,6 @@
 /* A heap in a file, and a list in it. Its pointers stay valid, since each session maps the file at the same address.
    Kill it at any moment: the next session finds heap and list as one commit left them, and goes on.
-   usage: heap VOLUME [STEPS]      a volume made by: famsync format --layout 5 VOLUME heap=65536/16777216 */
+   usage: heap VOLUME [STEPS]      a volume made by: famsync format VOLUME heap=65536/16777216 */
 #include <famsync.h>
 #include <stdbool.h>
 #include <stdio.h>

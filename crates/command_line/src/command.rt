@@ -16,6 +16,9 @@ use std::alloc::{AllocError, Allocator, Global};
 use std::convert::AsStr;
 use volume_codec::{FileSpec, Layout};
 
+/// The default layout of a new volume, if the words have no number of record slots.
+const LAYOUT: u64 = 5;
+
 /// The default number of a log's blocks: 64 MiB.
 const LOG_BLOCKS: u64 = 16_384;
 
@@ -126,11 +129,19 @@ fn format_job<'a, A: Allocator + Copy>(
     alloc: A,
     words: &ArgMatches<'a>,
 ) -> Result<Job<'a, A>, WordFault<'a>> {
-    let layout = layout_of(words)?;
+    let layout = layout_of(words, if has_slots(words) { 1 } else { LAYOUT })?;
     let key = key_of(words, layout)?;
     match log_layout(layout, key) {
         Some(seal) => log_job(alloc, words, seal),
         None => journals_job(alloc, words, layout),
+    }
+}
+
+// Whether the word SLOTS is a number of record slots. A word with `=` is the first file.
+fn has_slots(words: &ArgMatches<'_>) -> bool {
+    match words.get_str("SLOTS") {
+        Some(word) => !word.contains('='),
+        None => false,
     }
 }
 
@@ -174,6 +185,7 @@ fn log_job<'a, A: Allocator + Copy>(
         disk: text(words, "DISK"),
         log,
         files: some_files(files)?,
+        replace: words.get_flag("replace"),
         preallocate: words.get_flag("preallocate"),
         json: words.get_flag("json"),
     })))
@@ -234,7 +246,12 @@ fn key_of<'a>(words: &ArgMatches<'a>, layout: u64) -> Result<Option<u64>, WordFa
 fn migrate_job<'a, A: Allocator + Copy>(
     words: &ArgMatches<'a>,
 ) -> Result<Job<'a, A>, WordFault<'a>> {
-    let layout = layout_of(words)?;
+    let default = if words.contains_id("SLOTS") {
+        3
+    } else {
+        LAYOUT
+    };
+    let layout = layout_of(words, default)?;
     let key = key_of(words, layout)?;
     let layout = match log_layout(layout, key) {
         Some(seal) => new_log(words, layout, seal)?,
@@ -290,9 +307,11 @@ fn no_log<'a>(words: &ArgMatches<'a>, layout: u64) -> Result<(), WordFault<'a>> 
 }
 
 // The number of a new volume's layout.
-fn layout_of<'a>(words: &ArgMatches<'a>) -> Result<u64, WordFault<'a>> {
-    let layout = text(words, "layout");
-    decimal(layout).ok_or(WordFault::Layout(layout))
+fn layout_of<'a>(words: &ArgMatches<'a>, default: u64) -> Result<u64, WordFault<'a>> {
+    match words.get_str("layout") {
+        Some(word) => decimal(word).ok_or(WordFault::Layout(word)),
+        None => Ok(default),
+    }
 }
 
 // The record slots of each journal of a new volume.

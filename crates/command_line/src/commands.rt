@@ -9,6 +9,7 @@ enum Choice {
     Log,
     Key,
     NewLayout,
+    Replace,
     Preallocate,
     Trust,
     Json,
@@ -47,18 +48,22 @@ const PLAIN: Shape = Shape {
 const COMMANDS: &[Shape] = &[
     Shape {
         name: "format",
-        about: "Makes the volume DISK, or replaces it; all bytes of its files are 0",
+        about: "Makes the volume DISK; all bytes of its files are 0",
         usage: Some(
-            "famsync format [OPTIONS] <DISK> <SLOTS> <FILE>...\n       famsync format --layout <5|6> [OPTIONS] <DISK> <FILE>...",
+            "famsync format [OPTIONS] <DISK> <FILE>...\n       famsync format [OPTIONS] <DISK> <SLOTS> <FILE>...",
         ),
         options: &[
             Choice::Layout,
             Choice::Log,
             Choice::Key,
+            Choice::Replace,
             Choice::Preallocate,
             Choice::Json,
         ],
-        words: &[("DISK", "The volume's file, which is made or replaced")],
+        words: &[(
+            "DISK",
+            "The volume's file, which is made; with SLOTS or --replace, an old file is replaced",
+        )],
         optional: &[(
             "SLOTS",
             "Only in layouts 1 to 4: the number of record slots of each journal, which limits the blocks of a commit; 1 to 1020, in layout 3 at least 2, in layout 4 2 to 65535",
@@ -72,7 +77,7 @@ const COMMANDS: &[Shape] = &[
         name: "migrate",
         about: "Makes the volume NEW, or replaces it, with the files of the volume OLD; these files can grow",
         usage: Some(
-            "famsync migrate [OPTIONS] <OLD> <NEW> <SLOTS>\n       famsync migrate --layout <5|6> [OPTIONS] <OLD> <NEW>",
+            "famsync migrate [OPTIONS] <OLD> <NEW>\n       famsync migrate [OPTIONS] <OLD> <NEW> <SLOTS>",
         ),
         options: &[
             Choice::NewLayout,
@@ -236,8 +241,7 @@ fn with_option<'a>(
     match choice {
         Choice::Layout => command.arg(layout(
             alloc,
-            "1",
-            "The volume's layout. 1: one journal. 2: two journals. 3: two journals; files can grow. 4: four journals; files can grow; larger commits. 5: a log, in which a byte seals each commit; files can grow. 6: a log, in which a digest seals each commit; files can grow",
+            "The volume's layout. 1: one journal. 2: two journals. 3: two journals; files can grow. 4: four journals; files can grow; larger commits. 5: a log, in which a byte seals each commit; files can grow. 6: a log, in which a digest seals each commit; files can grow [default: 5, with SLOTS 1]",
         )),
         Choice::Log => command.arg(value(
             alloc,
@@ -253,8 +257,12 @@ fn with_option<'a>(
         )),
         Choice::NewLayout => command.arg(layout(
             alloc,
-            "3",
-            "The new volume's layout: 3 or 4, but not below OLD's layout; or 5 or 6",
+            "The new volume's layout: 3 or 4, but not below OLD's layout; or 5 or 6 [default: 5, with SLOTS 3]",
+        )),
+        Choice::Replace => command.arg(flag(
+            alloc,
+            "replace",
+            "In layouts 5 and 6: replace DISK even if it isn't empty",
         )),
         Choice::Preallocate => command.arg(flag(
             alloc,
@@ -290,12 +298,8 @@ fn with_words<'a>(
     Ok(command)
 }
 
-fn layout<'a>(alloc: Global, default: &'a str, help: &'a str) -> Arg<'a> {
-    Arg::new(alloc, "layout")
-        .long("layout")
-        .value_name("LAYOUT")
-        .default_value(default)
-        .help(help)
+fn layout<'a>(alloc: Global, help: &'a str) -> Arg<'a> {
+    value(alloc, "layout", "LAYOUT", help)
 }
 
 fn value<'a>(alloc: Global, name: &'a str, value: &'a str, help: &'a str) -> Arg<'a> {

@@ -53,14 +53,16 @@ pub enum Seal {
     Digest(Option<u64>),
 }
 
-/// A volume with a log to make. `disk` is the path of its file, and `log` the number of its log's blocks. `preallocate`
-/// asks to allocate all its blocks on the disk at once, and `json` for output in JSON.
+/// A volume with a log to make. `disk` is the path of its file, and `log` the number of its log's blocks. With
+/// `replace`, it replaces a file that isn't empty. `preallocate` asks to allocate all its blocks on the disk at once,
+/// and `json` for output in JSON.
 #[derive(Drop)]
 pub struct Logged<'a, A: Allocator + Copy> {
     pub seal: Seal,
     pub disk: &'a str,
     pub log: u64,
     pub files: Vec<FileSpec<'a>, A>,
+    pub replace: bool,
     pub preallocate: bool,
     pub json: bool,
 }

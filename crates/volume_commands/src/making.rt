@@ -87,6 +87,7 @@ where
         sealing: sealing(rt, asked.seal)?,
         files: &asked.files,
         ring: asked.log,
+        replace: asked.replace,
         preallocate: asked.preallocate,
     };
     volume_files::format_log(rt, alloc, asked.disk, plan)

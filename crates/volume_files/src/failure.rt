@@ -27,6 +27,9 @@ pub enum FileFailure<'a> {
     /// Each time the file was locked, the path named another file.
     #[error("disk {path:?}: another process keeps replacing the file")]
     Replaced { path: &'a str },
+    /// A new volume would replace a file that isn't empty.
+    #[error("disk {path:?}: the file isn't empty: use --replace to replace it")]
+    NotEmpty { path: &'a str },
     /// The file in which a new volume is made exists already.
     #[error("disk {path:?}: {new:?} already exists: remove it, unless another format is running")]
     NewIsThere { path: &'a str, new: String },

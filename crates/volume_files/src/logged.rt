@@ -17,13 +17,14 @@ use std::fs::{File, Files};
 use std::io::{self, Read};
 use volume_codec::FileSpec;
 
-/// A volume with a log to be made: how it seals its commits, its files, the number of its log's blocks, and whether
-/// disk space for its blocks is allocated at once.
+/// A volume with a log to be made: how it seals its commits, its files, the number of its log's blocks, whether it
+/// replaces a file that isn't empty, and whether disk space for its blocks is allocated at once.
 #[derive(Clone, Copy)]
 pub struct LogPlan<'a, 'b> {
     pub sealing: Sealing,
     pub files: &'b [FileSpec<'a>],
     pub ring: u64,
+    pub replace: bool,
     pub preallocate: bool,
 }
 
@@ -59,8 +60,9 @@ fn random_word<R: Files<File = File>>(rt: &R) -> io::Result<u64> {
     Ok(u64::from_be_bytes(bytes))
 }
 
-/// Replaces or makes the file at a path with the volume of a plan, and returns the number of its blocks. The volume is
-/// made in another file beside it, as `format` makes one.
+/// Makes or replaces the file at a path with the volume of a plan, and returns the number of its blocks. A file that
+/// isn't empty is replaced only if the plan says so. The volume is made in another file beside it, as `format` makes
+/// one.
 pub fn format_log<'a, R: Files<File = File> + AllocGlobal, A: Allocator + Copy>(
     rt: &R,
     alloc: A,
@@ -79,6 +81,9 @@ pub fn format_log<'a, R: Files<File = File> + AllocGlobal, A: Allocator + Copy>(
     };
     // Both files stay locked until the end.
     let old = target.old_volume()?;
+    if !plan.replace {
+        target.judge_empty(old.as_ref())?;
+    }
     let _file = named_volume(&target, alloc, plan, blocks, old.as_ref())?;
     target.durably_name()?;
     Ok(blocks)

@@ -41,6 +41,18 @@ impl<'a, R: Files<File = File> + AllocGlobal> Target<'a, '_, R> {
         }
     }
 
+    /// Checks that the file that is to be replaced, if there is one, is empty.
+    pub fn judge_empty(&self, old: Option<&File>) -> Result<(), FileFailure<'a>> {
+        let Some(old) = old else {
+            return Ok(());
+        };
+        match old.metadata() {
+            Ok(found) if found.len() == 0 => Ok(()),
+            Ok(_) => Err(FileFailure::NotEmpty { path: self.path }),
+            Err(cause) => Err(self.failed(cause)),
+        }
+    }
+
     /// Returns the path of the file beside it in which it is made.
     pub fn new_path(&self) -> Result<String, AllocError> {
         let place = self.place;

@@ -258,7 +258,7 @@ def a_volume_has_a_log():
     yield from prints("info|--json|five.img", 0, FRESH_AS_JSON.format(5))
     yield from prints("check|five.img", 0, "clean\n")
     yield from prints("check|--json|five.img", 0, '{"state":"clean"}\n')
-    make = "format|--layout=5|--preallocate|--json|--log=9|five.img|a=5000/12288|b=4096"
+    make = "format|--replace|--preallocate|--json|--log=9|five.img|a=5000/12288|b=4096"
     yield from prints(make, 0, '{"blocks":18}\n')
     yield from holds("five.img", image_of_five())
     yield from leaves("five.img")
@@ -280,10 +280,25 @@ def a_key_is_given_or_drawn():
     yield from leaves("six.img", "one.img", "two.img")
 
 
+NOT_EMPTY = 'disk "old.img": the file isn\'t empty: use --replace to replace it\n'
+
+
 def a_log_has_16384_blocks_by_default():
-    """An old volume of any layout is replaced, and formatting one of another layout replaces a volume with a log."""
+    """A file that isn't empty is replaced only with `--replace` or SLOTS, whatever its layout is. An empty one is."""
+    write_bytes("old.img", b"")
+    yield from prints("format|old.img|a=1", 0, "formatted 16390 blocks\n")
+    yield from shows("info|old.img", "layout 5, log of 16384 blocks, 16390 blocks, 67133440 bytes\n")
     yield from prints("format|old.img|4|a=1", 0, "formatted 8 blocks\n")
-    yield from prints("format|--layout|5|old.img|a=1", 0, "formatted 16390 blocks\n")
+    old = bytes_of("old.img")
+    for words in ("format|old.img|a=1", "format|--layout|6|--preallocate|old.img|a=1"):
+        yield from complains(words, 3, NOT_EMPTY)
+        yield from holds("old.img", old)
+    write_bytes("old.img", b"x")
+    yield from complains("format|old.img|a=1", 3, NOT_EMPTY)
+    yield from complains("format|old.img|a=0", 3, 'disk "old.img": badshape: the capacity of "a" is 0')
+    yield from holds("old.img", b"x")
+    yield from prints("format|--layout|6|--replace|old.img|a=1", 0, "formatted 16390 blocks\n")
+    yield from prints("format|--layout|5|--replace|old.img|a=1", 0, "formatted 16390 blocks\n")
     yield from shows("info|old.img", "layout 5, log of 16384 blocks, 16390 blocks, 67133440 bytes\n")
     yield from prints("format|old.img|4|a=1", 0, "formatted 8 blocks\n")
     yield from shows("info|old.img", "layout 1, 4 slots, 8 blocks, 32768 bytes\n")
@@ -441,7 +456,8 @@ def commits_make_room_in_a_log():
         yield from prints("run|log.img|log.json", 0, REPLIES)
         yield from prints("dump|log.img", 0, LAST_DUMP)
     for layout in (5, 6):
-        yield from prints(f"format|--layout|{layout}|--log|4|log.img|a=5000/12288|b=4096", 0, "formatted 13 blocks\n")
+        make = f"format|--replace|--layout|{layout}|--log|4|log.img|a=5000/12288|b=4096"
+        yield from prints(make, 0, "formatted 13 blocks\n")
         yield from prints("run|log.img|small.json", 0, REPLIES)
         yield from prints("dump|log.img", 0, LAST_DUMP)
         yield from prints("run|log.img|small.json", 0, REPLIES)

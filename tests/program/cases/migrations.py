@@ -57,7 +57,7 @@ REFUSALS = [
 
 # The words that ask for no migration, and the fault of each.
 BAD_WORDS = [
-    ("migrate|refused.img|no.img", "the following required arguments were not provided: <SLOTS>"),
+    ("migrate|--layout|3|refused.img|no.img", "the following required arguments were not provided: <SLOTS>"),
     ("migrate|--layout|5|refused.img|no.img|4", "SLOTS is only for layouts 3 and 4, but LAYOUT is 5"),
     ("migrate|--layout|6|refused.img|no.img|4", "SLOTS is only for layouts 3 and 4, but LAYOUT is 6"),
     ("migrate|--layout|5|refused.img|no.img|4|5", "unexpected argument '5' found"),
