@@ -144,6 +144,8 @@ struct famsync_options {
                             use (see famsync_memory_open); 0 means 64 MB */
     int tracking;        /* FAMSYNC_TRACK_SIGNALS or FAMSYNC_TRACK_KERNEL; see
                             famsync_memory_open */
+    int fixed;           /* not 0: the length of open plain memory never changes: famsync_setlength
+                            and famsync_rollback fail with FAMSYNC_OVERLAP instead */
 };
 
 /* FAMSYNC_TRACK_SIGNALS: the library's handler of SIGSEGV tracks stores to plain memory.
@@ -262,7 +264,8 @@ unsigned famsync_frames(const famsync *handle);
    nothing.
 
    If plain memory of the file is open, this memory grows or shrinks in place. The program must no
-   longer use bytes past the new end. FAMSYNC_SYSTEM: the system refused to resize the memory. */
+   longer use bytes past the new end. FAMSYNC_SYSTEM: the system refused to resize the memory.
+   FAMSYNC_OVERLAP: plain memory of the file is open, and the option `fixed` is set. */
 int famsync_setlength(famsync *handle, const char *file, uint64_t length);
 
 /* Reads `count` bytes of a file from `offset` on. These bytes include uncommitted changes of this
@@ -326,6 +329,9 @@ int famsync_msync(famsync *handle, uint64_t *mark);
 
    FAMSYNC_DEVICE or FAMSYNC_UNMARKED: a read, a write or a sync failed. After a failed read the
    session continues. After a failed write or sync the session is over (see famsync_msync).
+
+   FAMSYNC_OVERLAP: the call would change the length of open plain memory, and the option `fixed` is
+   set.
 
    A call that fails undoes nothing, with two exceptions:
 

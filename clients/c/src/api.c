@@ -193,6 +193,7 @@ static int open_session(famsync *handle, const char *path, const struct famsync_
     if (code == FAMSYNC_OK)
         code = open_core(handle, options);
     handle->resident = options->resident != 0;
+    handle->fixed = options->fixed != 0;
     handle->is_tracked = options->tracking == FAMSYNC_TRACK_KERNEL && !options->readonly;
     handle->budget = options->budget > 0 ? options->budget : DEFAULT_BUDGET;
     if (code == FAMSYNC_OK && handle->is_tracked)

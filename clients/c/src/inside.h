@@ -169,6 +169,7 @@ struct famsync {
                           that recorded calls */
     bool is_tracked;   /* the kernel tracks stores to plain memory, not the handler of SIGSEGV */
     struct tracker tracker;
+    bool fixed;               /* the length of open plain memory never changes */
     bool resident;            /* whole files are read into plain memory, instead of mapping the
                                  volume's file */
     uint64_t budget;          /* the most bytes that plain memory keeps for committed pages and

@@ -221,5 +221,7 @@ int famsync_setlength(famsync *handle, const char *file, uint64_t length)
     if (handle->volume.readonly)
         return leave(handle, FAMSYNC_READONLY);
     memory = memory_of_file(handle, number);
+    if (memory && handle->fixed)
+        return leave(handle, FAMSYNC_OVERLAP);
     return leave(handle, memory ? resize_memory(memory, length) : set_length(handle, number, length));
 }

@@ -76,6 +76,15 @@ static int make_spares(famsync_memory *memory, struct other *other)
     return code;
 }
 
+/* Whether the lengths of open memory may become those of the last commit. */
+static int check_lengths(const famsync *handle, const struct other *other)
+{
+    for (const famsync_memory *memory = handle->memories; memory; memory = memory->next_one)
+        if (handle->fixed && memory->length != other->length[memory->file])
+            return FAMSYNC_OVERLAP;
+    return FAMSYNC_OK;
+}
+
 /* What may fail, and takes long. The home blocks have the committed bytes once commits are written out. */
 static int prepare(famsync *handle, struct other *other)
 {
@@ -83,6 +92,8 @@ static int prepare(famsync *handle, struct other *other)
     int code = staged ? write_all_out(handle) : FAMSYNC_OK;
     if (staged && code == FAMSYNC_OK)
         code = open_other(handle, other);
+    if (staged && code == FAMSYNC_OK)
+        code = check_lengths(handle, other);
     for (famsync_memory *memory = handle->memories; memory && code == FAMSYNC_OK; memory = memory->next_one)
         code = memory->home ? write_all_out(handle) : make_spares(memory, other);
     return code;

@@ -129,6 +129,33 @@ static void refused_with_memory(int resident)
     WANT_CODE(famsync_close(handle), FAMSYNC_OK);
 }
 
+/* With `fixed`, the length of open memory stays, whoever would change it; that of a file without memory may change. */
+static void fixed_lengths(int resident)
+{
+    famsync_memory *memory;
+    make_volume_of(layout, 12, "a=5000/40000 b=0/4096");
+    famsync *handle = opened_with(
+        (struct famsync_options){.size = sizeof(struct famsync_options), .resident = resident, .fixed = 1});
+    WANT_CODE(famsync_setlength(handle, "a", 20000), FAMSYNC_OK);
+    WANT_CODE(famsync_memory_open(handle, "a", &memory), FAMSYNC_OK);
+    unsigned char *at = famsync_memory_at(memory);
+    at[19999] = 6;
+    WANT_CODE(famsync_setlength(handle, "b", 4096), FAMSYNC_OK);
+    WANT_CODE(famsync_setlength(handle, "a", 100), FAMSYNC_OVERLAP);
+    WANT_CODE(famsync_rollback(handle), FAMSYNC_OVERLAP);
+    WANT(famsync_memory_length(memory) == 20000 && at[19999] == 6 && famsync_file_length(handle, 1) == 4096);
+    WANT_CODE(famsync_msync(handle, NULL), FAMSYNC_OK);
+    at[19999] = 7;
+    WANT_CODE(famsync_setlength(handle, "b", 1), FAMSYNC_OK);
+    WANT_CODE(famsync_rollback(handle), FAMSYNC_OK);
+    WANT(famsync_memory_length(memory) == 20000 && at[19999] == 6 && famsync_file_length(handle, 1) == 4096);
+    WANT_CODE(famsync_memory_close(memory), FAMSYNC_OK);
+    WANT_CODE(famsync_setlength(handle, "a", 100), FAMSYNC_OK);
+    WANT_CODE(famsync_rollback(handle), FAMSYNC_OK);
+    WANT(famsync_file_length(handle, 0) == 20000);
+    WANT_CODE(famsync_close(handle), FAMSYNC_OK);
+}
+
 static sigjmp_buf back;
 static volatile unsigned char loaded; /* a load whose byte nobody uses may be left out */
 
@@ -330,6 +357,7 @@ int main(void)
         for (int resident = 0; resident < 2; resident++) {
             plain_memory(resident);
             refused_with_memory(resident);
+            fixed_lengths(resident);
             past_the_end(resident);
             threads_with_memory(resident);
         }

@@ -25,6 +25,7 @@ class Options(ctypes.Structure):
         ("resident", c_int),
         ("budget", c_size_t),
         ("tracking", c_int),
+        ("fixed", c_int),
     ]
 
 

@@ -11,7 +11,7 @@ from types import TracebackType
 from typing import Any, Dict, Iterator, List, NamedTuple, NoReturn, Optional, Tuple, Type, Union
 
 from . import _library
-from ._errors import Argument, Broken, Busy, Error, NoFile, check
+from ._errors import Argument, Broken, Busy, Error, NoFile, Overlap, check
 from ._library import Options, library, words
 from ._memory import Lent, Memory, open_memory
 from ._session import Once, Session
@@ -131,7 +131,7 @@ class Volume:
         budget: int = 0,
         kernel_tracking: bool = False,
     ) -> None:
-        self._memories: weakref.WeakSet[Memory] = weakref.WeakSet()
+        self._memories: List[weakref.ref[Memory]] = []  # a list can be copied while other threads change it
         self._lent: List[Tuple[Once, weakref.ref[Lent]]] = []
         self._lengths: Dict[str, List[int]] = {}
         self.path = path
@@ -147,6 +147,7 @@ class Volume:
             resident=resident,
             budget=budget,
             tracking=kernel_tracking,
+            fixed=True,  # a buffer of memory that became shorter would have bytes that are gone
         )
         encoded = _path(path)
         self._session = Session(f"the volume {os.fsdecode(path)!r}")
@@ -189,7 +190,7 @@ class Volume:
         lent = Lent(self, os.fsdecode(_name(name)))
         self._lent.append((lent.closing, weakref.ref(lent)))
         memory = open_memory(handle, lent, address, self._is_readonly)
-        self._memories.add(memory)
+        self._memories.append(weakref.ref(memory))
         return memory
 
     def _take_back(self) -> None:
@@ -199,6 +200,17 @@ class Volume:
             one[0].end()
             with suppress(ValueError):
                 self._lent.remove(one)
+        for gone in [memory for memory in self._memories if memory() is None]:
+            with suppress(ValueError):
+                self._memories.remove(gone)
+
+    def _opened_memories(self) -> List[Memory]:
+        return [opened for memory in self._memories if (opened := memory()) is not None]
+
+    def _closings_of(self, name: str) -> List[Once]:
+        """Returns what closes each memory of a file that is open."""
+        self._take_back()
+        return [closing for closing, lent in self._lent if (one := lent()) and one.name == name and closing.pointer]
 
     def read(self, name: str, offset: int = 0, count: Optional[int] = None) -> bytes:
         """Returns `count` bytes of a file from `offset` on, or fewer if the file ends before. Without `count` it
@@ -280,8 +292,7 @@ class Volume:
     def _set_length(self, handle: ctypes.c_void_p, name: str, length: int) -> None:
         encoded = _name(name)
         file = os.fsdecode(encoded)
-        if not self._is_readonly and self._has_memory(file):
-            raise Busy(f"memory of {name!r} is open")
+        self._take_back()
         before = self._lengths.get(file)
         mine: List[int] = []
         self._lengths[file] = mine
@@ -292,16 +303,14 @@ class Volume:
             self._lengths.pop(file, None)
         elif self._lengths.get(file) is mine and before is not None:
             self._lengths[file] = before
+        if code == Overlap.code:
+            raise Busy(f"memory of {name!r} is open")
         check(code)
 
     def _may_change_length(self, name: str) -> bool:
         """Whether a rollback may change the length of a file. If the length was set, `_lengths` has the number of the
         last commit before, or no number as long as that isn't known."""
         return name in self._lengths and self._lengths[name] in ([], [self.acknowledged])
-
-    def _has_memory(self, name: str) -> bool:
-        self._take_back()
-        return any(one.name == name and closing.pointer for closing, lent in self._lent if (one := lent()))
 
     def commit(self) -> int:
         """Makes all changes of this session durable, or none. Returns when they are durable, with the commit's number,
@@ -318,18 +327,27 @@ class Volume:
 
         If a file's length was set since the last commit, its memory is closed first. Raises BufferError if somebody has
         a buffer of this memory."""
-        lengths = dict(self._lengths)
-        for name in filter(self._may_change_length, lengths):
-            self._close_memory_of(name)
-        check(self._session.call(library.famsync_rollback))
+        lengths, code = self._rolled_back()
+        while code == Overlap.code and lengths:  # another thread has opened memory again meanwhile
+            lengths, code = self._rolled_back()
+        check(code)
         for name, length in lengths.items():
             if self._lengths.get(name) is length:
                 self._lengths.pop(name, None)
 
+    def _rolled_back(self) -> Tuple[Dict[str, List[int]], int]:
+        """Returns the lengths that were set before a rollback, and the rollback's code."""
+        lengths = dict(self._lengths)
+        for name in filter(self._may_change_length, lengths):
+            self._close_memory_of(name)
+        return lengths, self._session.call(library.famsync_rollback)
+
     def _close_memory_of(self, name: str) -> None:
-        for memory in [memory for memory in self._memories if memory.name == name]:
+        closings = self._closings_of(name)
+        for memory in [memory for memory in self._opened_memories() if memory.name == name]:
             memory.close()
-        if self._has_memory(name):
+        if any(closing.pointer for closing in closings):
+            # of a Memory that was dropped there is a view
             raise BufferError(f"the length of {name!r} can't be undone while somebody has a buffer of its memory")
 
     @contextmanager
@@ -359,7 +377,7 @@ class Volume:
         check(self._session.end(self._close_memories))
 
     def _close_memories(self) -> None:
-        for memory in list(self._memories):
+        for memory in self._opened_memories():
             memory.close()
         self._take_back()
         if any(closing.pointer for closing, _ in self._lent):

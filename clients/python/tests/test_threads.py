@@ -5,7 +5,7 @@ import threading
 import time
 import unittest
 
-from support import PAGE, InAFolder, famsync
+from support import PAGE, InAFolder, famsync, run_python
 
 THREADS = 4
 ROUNDS = 30
@@ -29,6 +29,45 @@ def together(*works):
     if raised:
         raise raised[0]
     return [answers[number] for number in range(len(works))]
+
+
+LENGTHS_BESIDE_MEMORY = """
+import sys, threading, time, famsync
+
+end, used = time.monotonic() + 2, 0
+volume = famsync.open("v.img")
+
+def use():
+    global used
+    while time.monotonic() < end:
+        try:
+            with volume.memory("a") as memory:
+                for _ in range(3):
+                    memory[len(memory) - 1] = 1
+                    time.sleep(0)
+                used += 1
+        except (famsync.Overlap, ValueError):  # a rollback may close it at any time
+            pass
+
+def set_lengths():
+    for turn in range(sys.maxsize):
+        if time.monotonic() > end:
+            break
+        try:
+            volume.set_length("a", 100 if turn % 2 else 65536)
+            if sys.argv[1:] == ["back"]:
+                volume.rollback()
+            elif turn % 50 == 0:
+                volume.commit()
+        except (famsync.Busy, BufferError):
+            pass
+
+thread = threading.Thread(target=use)
+thread.start()
+set_lengths()
+thread.join()
+print("used" if used > 0 else "not used")
+"""
 
 
 class Threads(InAFolder):
@@ -153,6 +192,14 @@ class Threads(InAFolder):
         together(*[lambda number=number: work(number) for number in range(THREADS)])
         volume.close()
         famsync.open("v.img").close()
+
+    def test_lengths_beside_memory(self):
+        """One thread sets and undoes lengths, and another one uses the last byte of memory that it opens: the length of
+        open memory stays, or this process of its own dies of a store past the end."""
+        self.make(60, "a=65536/65536", "b=8192", layout=4)
+        for rolls_back in (False, True):
+            ran = run_python(LENGTHS_BESIDE_MEMORY, "back" if rolls_back else "")
+            self.assertEqual((ran.returncode, ran.stdout, ran.stderr), (0, "used\n", ""))
 
     def test_close_from_within_a_call(self):
         volume = self.opened()

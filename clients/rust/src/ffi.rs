@@ -28,6 +28,7 @@ pub struct FamsyncOptions {
     pub resident: c_int,
     pub budget: usize,
     pub tracking: c_int,
+    pub fixed: c_int,
 }
 
 #[repr(C)]

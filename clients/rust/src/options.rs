@@ -120,6 +120,7 @@ impl Options {
             resident: c_int::from(self.resident),
             budget: self.budget,
             tracking: if self.kernel_tracking { ffi::FAMSYNC_TRACK_KERNEL } else { ffi::FAMSYNC_TRACK_SIGNALS },
+            fixed: 0,
         };
         let mut handle = ptr::null_mut();
         // Safety: the name ends with a null byte, and the options have as much room for a message as they say.
