@@ -256,7 +256,8 @@ static bool add_pages(famsync_memory *memory, size_t first, size_t end)
     if (mprotect(at, count, PROT_READ | PROT_WRITE) != 0)
         return false;
     memset(at, 0, count);
-    return mprotect(at, count, protection(memory)) == 0;
+    return mprotect(at, count, protection(memory)) == 0 &&
+           (!memory->handle->is_tracked || ignore_stores(memory, first, end) == FAMSYNC_OK);
 }
 
 /* Nobody may use these pages, which lie past the end, any more. If the system refuses that, a store to them is lost. */

@@ -224,8 +224,9 @@ static void lengths(void)
     unsigned char *at = famsync_memory_at(memory);
     memset(at, 1, 5000);
     WANT_CODE(famsync_setlength(handle, "a", 40000), FAMSYNC_OK);
-    WANT(is_all(at, 5000, 1) && is_all(at + 5000, 35000, 0));
+    WANT(is_all(at, 5000, 1) && is_all(at + 5000, 35000, 0) && famsync_memory_dirty(memory) == 2);
     at[39999] = 2;
+    WANT(famsync_memory_dirty(memory) == 3);
     WANT_CODE(famsync_msync(handle, NULL), FAMSYNC_OK);
     WANT(famsync_memory_dirty(memory) == 0);
     at[30000] = 3;
