@@ -111,33 +111,37 @@ size_t famsync_memory_dirty(const famsync_memory *memory)
     return count;
 }
 
-/* Opens the pages of the system from one up to before another. */
-static int touch(famsync_memory *memory, size_t first, size_t end)
+/* Opens the pages of a range. The caller holds `closing`, so the file keeps its length meanwhile. */
+static int touch_range(famsync_memory *memory, size_t offset, size_t count)
 {
-    size_t count = (end - 1 - first) * (memory->grain / PAGE) + pages_in(memory, end - 1);
-    sigset_t blocked;
-    bool opened;
-    if (count > memory->handle->frames)
-        return FAMSYNC_NOFRAME;
-    if (memory->handle->is_tracked)
+    size_t first = offset / memory->grain, end;
+    if (offset > memory->length || count > memory->length - offset)
+        return FAMSYNC_ARGUMENT;
+    if (memory->handle->volume.readonly)
+        return FAMSYNC_READONLY;
+    if (count == 0)
         return FAMSYNC_OK;
+    end = (offset + count - 1) / memory->grain + 1;
+    if ((end - 1 - first) * (memory->grain / PAGE) + pages_in(memory, end - 1) > memory->handle->frames)
+        return FAMSYNC_NOFRAME;
+    return memory->handle->is_tracked || open_pages(memory, first, end) ? FAMSYNC_OK : FAMSYNC_SYSTEM;
+}
+
+static int touch(famsync_memory *memory, size_t offset, size_t count)
+{
+    sigset_t blocked;
+    int code;
     lock_pages(memory->handle, &blocked);
-    opened = open_pages(memory, first, end);
+    code = touch_range(memory, offset, count);
     unlock_pages(memory->handle, &blocked);
-    return opened ? FAMSYNC_OK : FAMSYNC_SYSTEM;
+    return code;
 }
 
 int famsync_memory_touch(famsync_memory *memory, size_t offset, size_t count)
 {
     if (memory && is_forked(memory->handle))
         return FAMSYNC_FORKED;
-    if (!memory || offset > memory->length || count > memory->length - offset)
-        return FAMSYNC_ARGUMENT;
-    if (memory->handle->volume.readonly)
-        return FAMSYNC_READONLY;
-    if (count == 0)
-        return FAMSYNC_OK;
-    return touch(memory, offset / memory->grain, (offset + count - 1) / memory->grain + 1);
+    return memory ? touch(memory, offset, count) : FAMSYNC_ARGUMENT;
 }
 
 void read_memory(const famsync_memory *memory, uint64_t offset, unsigned char *bytes, size_t count)
@@ -149,7 +153,7 @@ void read_memory(const famsync_memory *memory, uint64_t offset, unsigned char *b
    handler isn't held while bytes are copied, since these may be in plain memory, too, or anywhere else. */
 int write_memory(famsync_memory *memory, uint64_t offset, const unsigned char *bytes, size_t count)
 {
-    int code = touch(memory, (size_t)offset / memory->grain, ((size_t)offset + count - 1) / memory->grain + 1);
+    int code = touch(memory, (size_t)offset, count);
     if (code == FAMSYNC_OK)
         memmove(memory->at + offset, bytes, count);
     return code;
