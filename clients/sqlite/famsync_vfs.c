@@ -71,19 +71,22 @@ static bool is_never_a_file(const char *path)
     return is_beside_a_database(path, "-journal") || is_beside_a_database(path, "-wal");
 }
 
+/* SQLite removes a super-journal without `sync` when no journal names it any more; with `sync`, to commit. */
 static int delete_file(sqlite3_vfs *vfs, const char *path, int sync)
 {
     (void)vfs;
-    return is_never_a_file(path) ? SQLITE_OK : usual->xDelete(usual, path, sync);
+    if (is_never_a_file(path) || (!sync && is_named_by_a_journal(path)))
+        return SQLITE_OK;
+    return usual->xDelete(usual, path, sync);
 }
 
 static int access_file(sqlite3_vfs *vfs, const char *path, int how, int *found)
 {
     (void)vfs;
-    if (!is_never_a_file(path))
-        return usual->xAccess(usual, path, how, found);
-    *found = 0;
-    return SQLITE_OK;
+    *found = is_named_by_a_journal(path);
+    if (*found || is_never_a_file(path))
+        return SQLITE_OK;
+    return usual->xAccess(usual, path, how, found);
 }
 
 static int larger(int one, size_t other)

@@ -4,6 +4,10 @@
  * It serves ROLLBACK alone. A transaction is one commit of the volume, so a kill leaves nothing to roll back. No file
  * lies beside the volume: it would have one name for all databases in the volume, and the next one that is opened would
  * play it back.
+ *
+ * In a transaction over several databases each journal names the super-journal, a file that names the journals. SQLite
+ * plays a journal back only while this file exists. It removes the file when it finds no journal that names the file.
+ * But it doesn't find journals in memory. So the file counts as existing as long as a journal in memory names it.
  */
 #include "vfs.h"
 
@@ -11,11 +15,40 @@
 
 #define LEAST_ROOM 65536
 
+/* The journals that are open; the mutex guards the list, and the changes of journals. */
+static struct journal *open_journals;
+
+/* A journal ends with the super-journal's name, two numbers of 4 bytes and these bytes, if it names one. */
+#define AFTER_NAME 16
+static const unsigned char end_of_name[8] = {0xd9, 0xd5, 0x05, 0xf9, 0x20, 0xa1, 0x63, 0xd7};
+
+static bool names(const struct journal *journal, const char *path)
+{
+    sqlite3_int64 length = (sqlite3_int64)strlen(path), at = journal->size - AFTER_NAME - length;
+    return at >= 0 && memcmp(journal->bytes + at, path, (size_t)length) == 0 &&
+           memcmp(journal->bytes + journal->size - sizeof end_of_name, end_of_name, sizeof end_of_name) == 0;
+}
+
+bool is_named_by_a_journal(const char *path)
+{
+    sqlite3_mutex *turn = take_turn();
+    const struct journal *journal = open_journals;
+    while (journal && !names(journal, path))
+        journal = journal->next;
+    sqlite3_mutex_leave(turn);
+    return journal != NULL;
+}
+
 static int close_journal(sqlite3_file *file)
 {
     struct journal *journal = (struct journal *)file;
+    sqlite3_mutex *turn = take_turn();
+    struct journal **place = &open_journals;
+    while (*place != journal)
+        place = &(*place)->next;
+    *place = journal->next;
+    sqlite3_mutex_leave(turn);
     sqlite3_free(journal->bytes);
-    journal->bytes = NULL;
     return SQLITE_OK;
 }
 
@@ -47,29 +80,38 @@ static int grow(struct journal *journal, sqlite3_int64 size)
     return SQLITE_OK;
 }
 
-static int write_journal(sqlite3_file *file, const void *bytes, int count, sqlite3_int64 at)
+static void put_bytes(struct journal *journal, const void *bytes, int count, sqlite3_int64 at)
 {
-    struct journal *journal = (struct journal *)file;
-    int code = grow(journal, at + count);
-    if (code != SQLITE_OK)
-        return code;
     if (at > journal->size)
         memset(journal->bytes + journal->size, 0, (size_t)(at - journal->size));
     memcpy(journal->bytes + at, bytes, (size_t)count);
     if (at + count > journal->size)
         journal->size = at + count;
-    return SQLITE_OK;
+}
+
+static int write_journal(sqlite3_file *file, const void *bytes, int count, sqlite3_int64 at)
+{
+    struct journal *journal = (struct journal *)file;
+    sqlite3_mutex *turn = take_turn();
+    int code = grow(journal, at + count);
+    if (code == SQLITE_OK)
+        put_bytes(journal, bytes, count, at);
+    sqlite3_mutex_leave(turn);
+    return code;
 }
 
 static int truncate_journal(sqlite3_file *file, sqlite3_int64 size)
 {
     struct journal *journal = (struct journal *)file;
+    sqlite3_mutex *turn = take_turn();
     if (size < journal->size)
         journal->size = size;
     if (size == 0) {
-        close_journal(file);
+        sqlite3_free(journal->bytes);
+        journal->bytes = NULL;
         journal->room = 0;
     }
+    sqlite3_mutex_leave(turn);
     return SQLITE_OK;
 }
 
@@ -135,8 +177,13 @@ static const sqlite3_io_methods methods = {
 int open_journal(sqlite3_file *file, int flags, int *found)
 {
     struct journal *journal = (struct journal *)file;
+    sqlite3_mutex *turn;
     memset(journal, 0, sizeof *journal);
     journal->base.pMethods = &methods;
+    turn = take_turn();
+    journal->next = open_journals;
+    open_journals = journal;
+    sqlite3_mutex_leave(turn);
     if (found)
         *found = flags;
     return SQLITE_OK;

@@ -41,6 +41,7 @@ struct database {
 /* A file that SQLite has open: the journal of such a database. */
 struct journal {
     sqlite3_file base;
+    struct journal *next; /* the next open journal */
     unsigned char *bytes;
     sqlite3_int64 size; /* the number of bytes of the journal */
     sqlite3_int64 room; /* the number of bytes that were allocated */
@@ -53,6 +54,8 @@ bool is_beside_a_database(const char *path, const char *suffix);
 
 /* journal.c */
 int open_journal(sqlite3_file *file, int flags, int *found);
+/* Whether an open journal names the super-journal at a path. */
+bool is_named_by_a_journal(const char *path);
 
 /* errors.c */
 /* SQLite's code for a code of the library; `other` if SQLite has no code for it. */

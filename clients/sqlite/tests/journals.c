@@ -1,6 +1,7 @@
 /*
  * Two databases in one volume, with each journal_mode: a transaction of one that is killed changes neither of them, a
- * rollback changes nothing, and no file lies beside the volume.
+ * rollback changes nothing, and no file lies beside the volume. Databases in two volumes, or a plain one beside one in
+ * a volume: a transaction over both whose commit fails changes neither.
  *
  *   journals EXTENSION
  */
@@ -8,7 +9,9 @@
 
 #include <dirent.h>
 
-#define ROWS 30
+#define MAKE_ROWS                                                                                                      \
+    "CREATE TABLE row (id INTEGER PRIMARY KEY, bytes BLOB); WITH RECURSIVE number(n) AS (SELECT 1 UNION ALL SELECT "   \
+    "n + 1 FROM number WHERE n < 30) INSERT INTO row SELECT n, zeroblob(3000) FROM number"
 
 static const char *const modes[] = {"DELETE", "TRUNCATE", "PERSIST", "MEMORY"};
 static const char *const names[] = {"one", "two"};
@@ -32,15 +35,10 @@ static void close_database(sqlite3 *database)
 
 static void make_databases(unsigned layout, const char *mode)
 {
-    char statement[200];
     make_volume_of(layout, 64, "one=819200 two=819200");
     for (unsigned i = 0; i < 2; i++) {
         sqlite3 *database = opened_database(names[i], mode);
-        snprintf(statement, sizeof statement,
-                 "CREATE TABLE row (id INTEGER PRIMARY KEY, bytes BLOB); WITH RECURSIVE number(n) AS (SELECT 1 UNION "
-                 "ALL SELECT n + 1 FROM number WHERE n < %d) INSERT INTO row SELECT n, zeroblob(3000) FROM number",
-                 ROWS);
-        must(database, statement);
+        must(database, MAKE_ROWS);
         close_database(database);
     }
 }
@@ -107,6 +105,85 @@ static void rolls_back(unsigned layout, const char *mode)
     want_alone(1);
 }
 
+/* Moves the volume aside, and makes the next one. */
+static void make_next_volume(unsigned layout, char first[80])
+{
+    snprintf(first, 80, "%s/first.img", folder);
+    WANT(rename(volume, first) == 0);
+    make_volume_of(layout, 20, "other=819200");
+}
+
+/* Attaches a database with more rows than a transaction on it may change. */
+static void attach_other(sqlite3 *to, const char *path, const char *mode)
+{
+    char statement[400];
+    snprintf(statement, sizeof statement,
+             "ATTACH '%s' AS other; PRAGMA other.journal_mode=%s; CREATE TABLE other.row (id INTEGER PRIMARY KEY, "
+             "bytes BLOB)",
+             path, mode);
+    must(to, statement);
+    for (int i = 0; i < 4; i++)
+        must(to, "INSERT INTO other.row SELECT NULL, hex(zeroblob(1500)) FROM main.row LIMIT 10");
+}
+
+static void want_unchanged(sqlite3 *in)
+{
+    WANT(answers(in, "PRAGMA integrity_check", "ok"));
+    WANT(answers(in, "SELECT count(*) FROM main.row WHERE bytes = 'changed'", "0"));
+    WANT(answers(in, "SELECT count(*) FROM other.row WHERE bytes LIKE '%y'", "0"));
+}
+
+/* A transaction changes two databases. The second one's part is too large for a commit, and the first one's has been
+   committed by then. */
+static void rolls_back_both(sqlite3 *in, const char *path, const char *mode, int files)
+{
+    char statement[300];
+    attach_other(in, path, mode);
+    must(in, "BEGIN; UPDATE main.row SET bytes = 'changed' WHERE id <= 5; UPDATE other.row SET bytes = bytes || 'y'");
+    WANT(run(in, "COMMIT") == SQLITE_FULL && sqlite3_get_autocommit(in));
+    want_alone(files);
+    want_unchanged(in);
+    snprintf(statement, sizeof statement, "DETACH other; ATTACH '%s' AS other", path);
+    must(in, statement);
+    want_unchanged(in);
+    must(in, "UPDATE main.row SET bytes = 'changed' WHERE id = 1; UPDATE other.row SET bytes = 'changed' WHERE id = 1");
+    close_database(in);
+}
+
+static void rolls_back_two_volumes(unsigned layout, const char *mode)
+{
+    char first[80], path[200], statement[100];
+    sqlite3 *database;
+    make_databases(layout, mode);
+    make_next_volume(layout, first);
+    snprintf(path, sizeof path, "file:%s?vfs=famsync&file=one", first);
+    WANT(open_database(path, &database) == SQLITE_OK);
+    snprintf(statement, sizeof statement, "PRAGMA journal_mode=%s", mode);
+    must(database, statement);
+    snprintf(path, sizeof path, "file:%s?vfs=famsync&file=other", volume);
+    rolls_back_both(database, path, mode, 2);
+    WANT(unlink(first) == 0);
+}
+
+/* The plain database is one of the default VFS, which knows nothing of a journal in memory. */
+static void rolls_back_a_volume_and_a_file(unsigned layout, const char *mode)
+{
+    char plain[80], path[200], statement[100];
+    sqlite3 *database;
+    make_databases(layout, mode);
+    make_next_volume(layout, plain);
+    WANT(unlink(plain) == 0);
+    WANT(open_database(plain, &database) == SQLITE_OK);
+    snprintf(statement, sizeof statement, "PRAGMA journal_mode=%s", mode);
+    must(database, statement);
+    must(database, MAKE_ROWS);
+    snprintf(path, sizeof path, "file:%s?vfs=famsync&file=other", volume);
+    rolls_back_both(database, path, mode, 2 + (strcmp(mode, "PERSIST") == 0 || strcmp(mode, "TRUNCATE") == 0));
+    WANT(unlink(plain) == 0);
+    strcat(plain, "-journal");
+    unlink(plain);
+}
+
 static void leave_file(const char *suffix)
 {
     char path[100];
@@ -150,6 +227,8 @@ int main(int count, char **words)
         for (unsigned layout = 1; layout <= LAYOUTS; layout++) {
             survives_a_kill(layout, modes[i]);
             rolls_back(layout, modes[i]);
+            rolls_back_two_volumes(layout, modes[i]);
+            rolls_back_a_volume_and_a_file(layout, modes[i]);
         }
         leaves_files_alone(modes[i]);
     }
