@@ -28,8 +28,9 @@
  * these pages to their places.
  *
  * Each call that returns an int returns FAMSYNC_OK or one of the negative codes below.
- * famsync_strerror describes a code. Any number of threads may use one handle. Their calls may wait
- * for each other. If a thread is canceled within a call, the call still completes.
+ * famsync_strerror describes a code, and famsync_error the last failure. Any number of threads may
+ * use one handle. Their calls may wait for each other. If a thread is canceled within a call, the
+ * call still completes.
  *
  * A session belongs to the process that called famsync_open. Only this process keeps the volume
  * locked. A forked process gets copies of the handle and of plain memory. In the forked process:
@@ -346,6 +347,14 @@ uint64_t famsync_acknowledged(famsync *handle);
 
 /* Returns a description of a code. */
 const char *famsync_strerror(int code);
+
+/* Returns a text about the calling thread's last failed call, for instance that one commit can have
+   at most 1020 pages, and this commit has 1200. The text begins with the name of the call. Returns
+   an empty string if no call of this thread failed, or if the last failed call took another handle,
+   no handle, or memory of another handle. A null pointer as `handle` means any call. After
+   famsync_close has freed a handle, the thread may still pass this handle to famsync_error. The
+   text is valid until the thread's next failed call. */
+const char *famsync_error(const famsync *handle);
 
 /* Statistics of a session. Set `size` to the size of this structure. FAMSYNC_ARGUMENT: `size` is
    too small to include the field `memory`. Later versions of the library may add fields after

@@ -20,13 +20,13 @@ static int why_over(famsync *handle)
     return reported ? FAMSYNC_BROKEN : handle->ended;
 }
 
-int enter(famsync *handle, bool has_arguments)
+int enter_unless(famsync *handle, const char *fault)
 {
     int cancel;
     if (is_forked(handle))
         return FAMSYNC_FORKED;
-    if (!handle || !has_arguments)
-        return FAMSYNC_ARGUMENT;
+    if (!handle || fault)
+        return explain(FAMSYNC_ARGUMENT, "%s", handle ? fault : "the handle is a null pointer");
     cancel = hold_off_cancel();
     atomic_fetch_add(&handle->callers, 1);
     pthread_mutex_lock(&handle->turn);
@@ -108,7 +108,8 @@ static int read_volume(famsync *handle, unsigned wanted)
     if (files < 0 || files > MOST_FILES || frames < 0 || head < 1 || head > handle->blocks)
         return FAMSYNC_DAMAGED;
     if (wanted > frames)
-        return FAMSYNC_SHAPE;
+        return explain(FAMSYNC_SHAPE, "the option `frames` is %u; a commit of this volume can have at most %lld pages",
+                       wanted, (long long)frames);
     handle->files = (unsigned)files;
     handle->frames = (unsigned)frames;
     handle->head = (uint32_t)head;
@@ -139,6 +140,8 @@ static int open_with_blocks(famsync *handle, unsigned frames)
             continue;
         if (answer == FAMSYNC_CORE_DEVICE) /* there was no memory for a call that it would record */
             code = FAMSYNC_NOMEMORY;
+        if (code == FAMSYNC_BUSY)
+            explain(code, "no number is left for another opening");
         if (code == FAMSYNC_OK && handle->head == 0)
             code = read_volume(handle, frames);
         if (code == FAMSYNC_OK)
@@ -201,7 +204,7 @@ static int open_session(famsync *handle, const char *path, const struct famsync_
     if (code == FAMSYNC_OK && !options->foreground && !options->readonly)
         begin_background(handle);
     if (code != FAMSYNC_OK)
-        say(&message, "\"%s\": %s", path, famsync_strerror(code));
+        say_why(&message, path, code);
     return code;
 }
 
@@ -265,13 +268,15 @@ static int take_options(const struct famsync_options *given, struct famsync_opti
     if (!given)
         return FAMSYNC_OK;
     if (size < FIRST_SIZE)
-        return FAMSYNC_ARGUMENT;
+        return explain(FAMSYNC_ARGUMENT, "`size` of the options is %zu, which is too small", size);
     for (size_t i = sizeof *options; i < size; i++)
         if (((const unsigned char *)given)[i] != 0)
-            return FAMSYNC_ARGUMENT;
+            return explain(FAMSYNC_ARGUMENT, "this version of the library doesn't know all of the options");
     memcpy(options, given, size < sizeof *options ? size : sizeof *options);
-    if (options->tracking != FAMSYNC_TRACK_SIGNALS && (options->tracking != FAMSYNC_TRACK_KERNEL || options->resident))
-        return FAMSYNC_ARGUMENT;
+    if (options->tracking != FAMSYNC_TRACK_SIGNALS && options->tracking != FAMSYNC_TRACK_KERNEL)
+        return explain(FAMSYNC_ARGUMENT, "the option `tracking` is %d", options->tracking);
+    if (options->tracking == FAMSYNC_TRACK_KERNEL && options->resident)
+        return explain(FAMSYNC_ARGUMENT, "the options have both FAMSYNC_TRACK_KERNEL and `resident`");
     return FAMSYNC_OK;
 }
 
@@ -286,28 +291,39 @@ static int begin_session(const char *volume, const struct famsync_options *optio
     if (!handle)
         return FAMSYNC_NOMEMORY;
     code = open_session(handle, volume, options);
-    if (code != FAMSYNC_OK)
+    if (code != FAMSYNC_OK) {
         drop(handle);
-    else
-        *opened = handle;
+        return code;
+    }
+    forget_failure(handle);
+    *opened = handle;
+    return code;
+}
+
+static int open_handle(const char *volume, const struct famsync_options *given, famsync **opened)
+{
+    struct famsync_options options;
+    int code, cancel;
+    if (!volume || !*volume)
+        return explain(FAMSYNC_ARGUMENT, "the path is %s", volume ? "empty" : "a null pointer");
+    if (!opened)
+        return explain(FAMSYNC_ARGUMENT, "`handle` is a null pointer");
+    code = take_options(given, &options);
+    if (code != FAMSYNC_OK) {
+        say_why(&(struct message){options.message, options.message_size}, volume, code);
+        return code;
+    }
+    cancel = hold_off_cancel();
+    code = begin_session(volume, &options, opened);
+    allow_cancel(cancel);
     return code;
 }
 
 int famsync_open(const char *volume, const struct famsync_options *given, famsync **opened)
 {
-    struct famsync_options options;
-    int code, cancel;
     if (opened)
         *opened = NULL;
-    if (!volume || !*volume || !opened)
-        return FAMSYNC_ARGUMENT;
-    code = take_options(given, &options);
-    if (code != FAMSYNC_OK)
-        return code;
-    cancel = hold_off_cancel();
-    code = begin_session(volume, &options, opened);
-    allow_cancel(cancel);
-    return code;
+    return answer(NULL, __func__, open_handle(volume, given, opened));
 }
 
 /* Ends a session, unless plain memory is open. What is left of commits is written, so that the next session has nothing
@@ -320,7 +336,7 @@ static int end_session(famsync *handle)
     in_use = handle->memories != NULL;
     pthread_mutex_unlock(&handle->turn);
     if (in_use)
-        return FAMSYNC_ARGUMENT;
+        return explain(FAMSYNC_ARGUMENT, "plain memory of the handle is still open");
     end_background(handle);
     code = handle->ended == FAMSYNC_OK ? write_all_out(handle) : handle->ended;
     if (handle->ended != FAMSYNC_OK)
@@ -331,6 +347,7 @@ static int end_session(famsync *handle)
 
 int famsync_close(famsync *handle)
 {
+    uintptr_t closed = (uintptr_t)handle;
     int code, cancel;
     /* The other process's thread may have been anywhere in the core, and had the locks: they are left as they are. */
     if (!handle || is_forked(handle))
@@ -338,7 +355,7 @@ int famsync_close(famsync *handle)
     cancel = hold_off_cancel();
     code = end_session(handle);
     allow_cancel(cancel);
-    return code;
+    return code == FAMSYNC_OK ? code : note_failure(closed, __func__, code);
 }
 
 const char *famsync_version(void)

@@ -116,9 +116,12 @@ static int lock_file(const famsync *handle, struct backup *backup)
     int flags = fcntl(backup->file, F_GETFL);
     if (flags < 0 || fstat(backup->file, &found) != 0 || fstat(handle->volume.file, &own) != 0)
         return FAMSYNC_SYSTEM;
-    if (!S_ISREG(found.st_mode) || (flags & O_ACCMODE) != O_RDWR || flags & O_APPEND ||
-        (found.st_dev == own.st_dev && found.st_ino == own.st_ino))
-        return FAMSYNC_ARGUMENT;
+    if (!S_ISREG(found.st_mode))
+        return explain(FAMSYNC_ARGUMENT, "the backup's file isn't a regular file");
+    if ((flags & O_ACCMODE) != O_RDWR || flags & O_APPEND)
+        return explain(FAMSYNC_ARGUMENT, "`descriptor` isn't open for reading and writing, or has O_APPEND");
+    if (found.st_dev == own.st_dev && found.st_ino == own.st_ino)
+        return explain(FAMSYNC_ARGUMENT, "the backup's file is the volume's file");
     backup->locked = flock(backup->file, LOCK_EX | LOCK_NB) == 0;
     return backup->locked ? FAMSYNC_OK : errno == EWOULDBLOCK ? FAMSYNC_INUSE : FAMSYNC_SYSTEM;
 }
@@ -157,7 +160,10 @@ static void give_back(const struct backup *backup)
    first file's has the lengths; in a volume without lengths it is of a closed journal, and doesn't matter. */
 static int begin(famsync *handle, struct backup *backup)
 {
-    int code = handle->backup ? FAMSYNC_BUSY : lock_file(handle, backup);
+    int code = handle->backup ? explain(FAMSYNC_BUSY, "another backup with this handle is in progress")
+                              : lock_file(handle, backup);
+    if (code == FAMSYNC_INUSE)
+        explain(code, "the backup's file is already locked");
     if (code == FAMSYNC_OK)
         code = write_all_out(handle);
     if (code == FAMSYNC_OK)
@@ -244,12 +250,12 @@ static int write_backup(famsync *handle, struct backup *backup)
 int famsync_backup(famsync *handle, int descriptor)
 {
     struct backup backup = {.file = descriptor};
-    int cancel = hold_off_cancel(), code = enter(handle, descriptor >= 0);
+    int cancel = hold_off_cancel(), code = enter_unless(handle, descriptor >= 0 ? NULL : "`descriptor` is negative");
     if (code == FAMSYNC_OK)
         code = leave(handle, begin(handle, &backup));
     if (code == FAMSYNC_OK)
         code = write_backup(handle, &backup);
     give_back(&backup);
     allow_cancel(cancel);
-    return code;
+    return answer(handle, __func__, code);
 }

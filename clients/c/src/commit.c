@@ -21,6 +21,8 @@ static int make_commit(famsync *handle, uint32_t *number)
         uint32_t wanted = 0;
         int32_t answer = famsync_core_commit(handle->core, number, &wanted, &handle->core.at);
         int code = answer == FAMSYNC_CORE_WANTED ? supply(handle, wanted, 1) : answer_of(handle, answer);
+        if (code == FAMSYNC_BUSY)
+            return explain(code, "no number is left for another commit");
         if (answer != FAMSYNC_CORE_WANTED || code != FAMSYNC_OK)
             return code;
         code = drain_many(handle);
@@ -107,6 +109,7 @@ static void commit_for_waiters(famsync *handle)
     pthread_mutex_lock(&handle->queue);
     for (struct waiter *waiter = waiters; waiter; waiter = next) {
         next = waiter->next;
+        share_explanation(waiter->failure, code);
         waiter->code = code;
         waiter->error = error;
         waiter->mark = mark;
@@ -136,12 +139,12 @@ static void await_commit(famsync *handle, struct waiter *mine)
     pthread_mutex_unlock(&handle->queue);
 }
 
-int famsync_msync(famsync *handle, uint64_t *mark)
+static int commit_now(famsync *handle, uint64_t *mark)
 {
-    struct waiter mine = {0};
+    struct waiter mine = {.failure = own_failure()};
     int cancel;
     if (!handle)
-        return FAMSYNC_ARGUMENT;
+        return explain(FAMSYNC_ARGUMENT, "the handle is a null pointer");
     if (is_forked(handle))
         return FAMSYNC_FORKED;
     if (handle->volume.readonly)
@@ -154,4 +157,9 @@ int famsync_msync(famsync *handle, uint64_t *mark)
     if (mine.code != FAMSYNC_OK)
         errno = mine.error;
     return mine.code;
+}
+
+int famsync_msync(famsync *handle, uint64_t *mark)
+{
+    return answer(handle, __func__, commit_now(handle, mark));
 }

@@ -360,7 +360,7 @@ static int make_volume_at(const char *path, const struct made *made, struct mess
         code = make_volume(made, &volume);
     error = errno;
     if (code != FAMSYNC_OK)
-        say(message, "\"%s\": %s", path, code == FAMSYNC_SYSTEM ? strerror(error) : famsync_strerror(code));
+        say_why(message, path, code);
     close_volume_file(&volume);
     errno = error;
     return code;
@@ -401,12 +401,16 @@ static int format(const char *path, const struct famsync_plan *plan, struct made
 {
     struct message message;
     const char *fault;
-    if (!path || !*path || !take_plan(plan, &made->plan))
-        return FAMSYNC_ARGUMENT;
+    if (!path || !*path)
+        return explain(FAMSYNC_ARGUMENT, "the path is %s", path ? "empty" : "a null pointer");
+    if (!take_plan(plan, &made->plan))
+        return explain(FAMSYNC_ARGUMENT, "`size` of the plan is invalid, or this version of the library doesn't know "
+                                         "all of the plan");
     message = (struct message){made->plan.message, made->plan.message_size};
     fault = judge_plan(made);
     if (fault) {
-        say(&message, "\"%s\": %s", path, fault);
+        explain(FAMSYNC_ARGUMENT, "%s", fault);
+        say_why(&message, path, FAMSYNC_ARGUMENT);
         return FAMSYNC_ARGUMENT;
     }
     if (draw_key(&made->plan) != FAMSYNC_OK) {
@@ -422,10 +426,10 @@ int famsync_format(const char *volume, const struct famsync_plan *plan)
     struct made *made = calloc(1, sizeof *made);
     int cancel, code;
     if (!made)
-        return FAMSYNC_NOMEMORY;
+        return answer(NULL, __func__, FAMSYNC_NOMEMORY);
     cancel = hold_off_cancel();
     code = format(volume, plan, made);
     allow_cancel(cancel);
     free(made);
-    return code;
+    return answer(NULL, __func__, code);
 }

@@ -123,9 +123,13 @@ struct log {
 /* A backup that is being made (backup.c). */
 struct backup;
 
+/* Why a thread's last failed call failed (errors.c). */
+struct failure;
+
 /* A thread that waits for a commit. The structure is on the stack of this thread. */
 struct waiter {
     struct waiter *next;
+    struct failure *failure; /* the thread's own */
     bool done;
     int code, error; /* the code and errno of the thread's call */
     uint64_t mark;
@@ -205,6 +209,25 @@ static inline uint32_t first_forgettable(const famsync *handle)
 int code_of(int64_t core_code);
 int answer_of(famsync *handle, int64_t core_code);
 
+/* errors.c: texts about failed calls. `explain` keeps a text until the call ends, and returns the
+   code; without it the code's own words are said. A call that explains a code has to fail with
+   it. */
+__attribute__((format(printf, 2, 3))) int explain(int code, const char *format, ...);
+int note_failure(uintptr_t handle, const char *call, int code);
+/* Returns the code of a call that ends. If the call failed, notes why, for famsync_error. */
+static inline int answer(const famsync *handle, const char *call, int code)
+{
+    return code == FAMSYNC_OK ? code : note_failure((uintptr_t)handle, call, code);
+}
+/* Writes the path of a volume, and why its opening or making failed. */
+void say_why(struct message *message, const char *path, int code);
+/* `own_failure` is the structure of this thread. `share_explanation` copies the explanation of a
+   code to another thread, whose call fails with the same code, and which waits meanwhile. */
+struct failure *own_failure(void);
+void share_explanation(struct failure *failure, int code);
+/* A new handle has had no failed call, even if an earlier one had the same address. */
+void forget_failure(const famsync *handle);
+
 /* No thread is cancelled within a call, since a cancelled thread would leave locks held. */
 static inline int hold_off_cancel(void)
 {
@@ -221,8 +244,13 @@ static inline void allow_cancel(int before)
 
 /* api.c: turns. If `enter` returns FAMSYNC_OK, the caller has the turn until `leave`. In a forked
    process `enter` returns FAMSYNC_FORKED, even if `has_arguments` is false. Otherwise it returns
-   FAMSYNC_ARGUMENT if `has_arguments` is false. */
-int enter(famsync *handle, bool has_arguments);
+   FAMSYNC_ARGUMENT if `has_arguments` is false. `enter_unless` does the same, and explains the
+   fault of the arguments; a null pointer means that they have none. */
+int enter_unless(famsync *handle, const char *fault);
+static inline int enter(famsync *handle, bool has_arguments)
+{
+    return enter_unless(handle, has_arguments ? NULL : famsync_strerror(FAMSYNC_ARGUMENT));
+}
 int leave(famsync *handle, int code);
 /* The number of the file with this name; the number of files if there is none. */
 unsigned number_of(const famsync *handle, const char *name);
@@ -302,6 +330,11 @@ int write_range(famsync *handle, unsigned file, uint64_t offset, const unsigned 
                 size_t *done);
 /* Sets a file's length, up to its capacity. */
 int set_length(famsync *handle, unsigned file, uint64_t length);
+/* Explain codes: these pages are too many for one commit; the volume has no file of this name; plain
+   memory of this file is open (memory.c). */
+int explain_no_frame(const famsync *handle, const char *what, uint64_t pages);
+int no_such_name(const char *file);
+int memory_is_open(const char *file);
 /* The number of these pages that already wait in the core for the next commit. */
 uint64_t staged_among(famsync *handle, unsigned file, uint64_t first, uint64_t count);
 

@@ -37,6 +37,11 @@ famsync_memory *memory_of_file(const famsync *handle, unsigned file)
     return NULL;
 }
 
+int memory_is_open(const char *file)
+{
+    return explain(FAMSYNC_OVERLAP, "plain memory of \"%s\" is already open", file);
+}
+
 /* Memory for a file that has none. */
 static int open_new(famsync *handle, unsigned file, void *address, famsync_memory **opened)
 {
@@ -61,11 +66,11 @@ static int open_memory(famsync *handle, const char *file, void *address, famsync
 {
     unsigned number = number_of(handle, file);
     if (number == handle->files)
-        return FAMSYNC_NOFILE;
+        return no_such_name(file);
     if (handle->file[number].length == 0)
-        return FAMSYNC_ARGUMENT;
+        return explain(FAMSYNC_ARGUMENT, "the file \"%s\" is empty", file);
     if (memory_of_file(handle, number))
-        return FAMSYNC_OVERLAP;
+        return memory_is_open(file);
     return open_new(handle, number, address, opened);
 }
 
@@ -74,18 +79,18 @@ static int open_anywhere_or_at(famsync *handle, const char *file, void *address,
     int code;
     if (opened)
         *opened = NULL;
-    code = enter(handle, file && opened);
+    code = enter_unless(handle, !file ? "`file` is a null pointer" : !opened ? "`memory` is a null pointer" : NULL);
     return code == FAMSYNC_OK ? leave(handle, open_memory(handle, file, address, opened)) : code;
 }
 
 int famsync_memory_open(famsync *handle, const char *file, famsync_memory **opened)
 {
-    return open_anywhere_or_at(handle, file, NULL, opened);
+    return answer(handle, __func__, open_anywhere_or_at(handle, file, NULL, opened));
 }
 
 int famsync_memory_open_at(famsync *handle, const char *file, void *address, famsync_memory **opened)
 {
-    return open_anywhere_or_at(handle, file, address, opened);
+    return answer(handle, __func__, open_anywhere_or_at(handle, file, address, opened));
 }
 
 void *famsync_memory_at(const famsync_memory *memory)
@@ -114,16 +119,18 @@ size_t famsync_memory_dirty(const famsync_memory *memory)
 /* Opens the pages of a range. The caller holds `closing`, so the file keeps its length meanwhile. */
 static int touch_range(famsync_memory *memory, size_t offset, size_t count)
 {
-    size_t first = offset / memory->grain, end;
+    size_t first = offset / memory->grain, end, pages;
     if (offset > memory->length || count > memory->length - offset)
-        return FAMSYNC_ARGUMENT;
+        return explain(FAMSYNC_ARGUMENT, "offset %zu with %zu bytes ends past the %zu bytes of \"%s\"", offset, count,
+                       memory->length, memory->handle->file[memory->file].name);
     if (memory->handle->volume.readonly)
         return FAMSYNC_READONLY;
     if (count == 0)
         return FAMSYNC_OK;
     end = (offset + count - 1) / memory->grain + 1;
-    if ((end - 1 - first) * (memory->grain / PAGE) + pages_in(memory, end - 1) > memory->handle->frames)
-        return FAMSYNC_NOFRAME;
+    pages = (end - 1 - first) * (memory->grain / PAGE) + pages_in(memory, end - 1);
+    if (pages > memory->handle->frames)
+        return explain_no_frame(memory->handle, "the range has", pages);
     return memory->handle->is_tracked || open_pages(memory, first, end) ? FAMSYNC_OK : FAMSYNC_SYSTEM;
 }
 
@@ -139,9 +146,9 @@ static int touch(famsync_memory *memory, size_t offset, size_t count)
 
 int famsync_memory_touch(famsync_memory *memory, size_t offset, size_t count)
 {
-    if (memory && is_forked(memory->handle))
-        return FAMSYNC_FORKED;
-    return memory ? touch(memory, offset, count) : FAMSYNC_ARGUMENT;
+    if (!memory)
+        return answer(NULL, __func__, explain(FAMSYNC_ARGUMENT, "`memory` is a null pointer"));
+    return answer(memory->handle, __func__, is_forked(memory->handle) ? FAMSYNC_FORKED : touch(memory, offset, count));
 }
 
 void read_memory(const famsync_memory *memory, uint64_t offset, unsigned char *bytes, size_t count)

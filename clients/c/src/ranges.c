@@ -108,14 +108,33 @@ uint64_t staged_among(famsync *handle, unsigned file, uint64_t first, uint64_t c
     return found;
 }
 
-/* Whether the next commit has room for the pages of a range, besides those that it has already. */
-static bool has_room(famsync *handle, unsigned file, uint64_t offset, size_t count)
+int explain_no_frame(const famsync *handle, const char *what, uint64_t pages)
+{
+    return explain(FAMSYNC_NOFRAME, "%s %llu pages; one commit can have at most %u", what, (unsigned long long)pages,
+                   handle->frames);
+}
+
+/* Judges whether the next commit has room for the pages of a range, besides those that it has already. */
+static int judge_room(famsync *handle, unsigned file, uint64_t offset, size_t count)
 {
     uint64_t staged = (uint64_t)famsync_core_staged(handle->core, &handle->core.at), pages = pages_of(offset, count);
     if (pages > handle->frames)
-        return false;
-    return staged + pages <= handle->frames ||
-           staged + pages - staged_among(handle, file, offset / PAGE, pages) <= handle->frames;
+        return explain_no_frame(handle, "the range has", pages);
+    if (staged + pages > handle->frames)
+        pages -= staged_among(handle, file, offset / PAGE, pages);
+    return staged + pages <= handle->frames ? FAMSYNC_OK
+                                            : explain_no_frame(handle, "the next commit would have", staged + pages);
+}
+
+static int no_such_number(const famsync *handle, unsigned file)
+{
+    return explain(FAMSYNC_NOFILE, "the volume has no file %u; its files are numbered from 0 to %u", file,
+                   handle->files - 1);
+}
+
+int no_such_name(const char *file)
+{
+    return explain(FAMSYNC_NOFILE, "the volume has no file \"%.64s\"", file);
 }
 
 static int read_file(famsync *handle, unsigned file, uint64_t offset, unsigned char *bytes, size_t count, size_t *done)
@@ -123,7 +142,7 @@ static int read_file(famsync *handle, unsigned file, uint64_t offset, unsigned c
     const famsync_memory *memory;
     uint64_t length;
     if (file >= handle->files)
-        return FAMSYNC_NOFILE;
+        return no_such_number(handle, file);
     length = handle->file[file].length;
     if (offset >= length)
         return FAMSYNC_OK;
@@ -137,48 +156,61 @@ static int read_file(famsync *handle, unsigned file, uint64_t offset, unsigned c
     return FAMSYNC_OK;
 }
 
+static int past_end(const struct file *file, uint64_t offset, size_t count)
+{
+    return explain(FAMSYNC_EINVAL, "offset %llu with %zu bytes ends past the %llu bytes of \"%s\"",
+                   (unsigned long long)offset, count, (unsigned long long)file->length, file->name);
+}
+
 static int write_file(famsync *handle, unsigned file, uint64_t offset, const unsigned char *bytes, size_t count,
                       size_t *done)
 {
     famsync_memory *memory;
     int code;
     if (file >= handle->files)
-        return FAMSYNC_NOFILE;
+        return no_such_number(handle, file);
     if (handle->volume.readonly)
         return FAMSYNC_READONLY;
     if (count == 0)
         return FAMSYNC_OK;
     if (offset > handle->file[file].length || count > handle->file[file].length - offset)
-        return FAMSYNC_EINVAL;
+        return past_end(&handle->file[file], offset, count);
     memory = memory_of_file(handle, file);
-    if (!memory)
-        return has_room(handle, file, offset, count) ? write_range(handle, file, offset, bytes, count, done)
-                                                     : FAMSYNC_NOFRAME;
+    if (!memory) {
+        code = judge_room(handle, file, offset, count);
+        return code == FAMSYNC_OK ? write_range(handle, file, offset, bytes, count, done) : code;
+    }
     code = write_memory(memory, offset, bytes, count);
     *done = code == FAMSYNC_OK ? count : 0;
     return code;
 }
 
+/* What is wrong with the arguments of a read or a write; a null pointer if nothing is. */
+static const char *judge_bytes(const void *bytes, size_t count)
+{
+    return count == 0 || bytes ? NULL : "`bytes` is a null pointer";
+}
+
 int famsync_read(famsync *handle, unsigned file, uint64_t offset, void *bytes, size_t count, size_t *done)
 {
     size_t counted = 0;
-    int code = enter(handle, count == 0 || bytes);
+    int code = enter_unless(handle, judge_bytes(bytes, count));
     if (code == FAMSYNC_OK)
         code = leave(handle, read_file(handle, file, offset, bytes, count, &counted));
     if (done)
         *done = counted;
-    return code;
+    return answer(handle, __func__, code);
 }
 
 int famsync_write(famsync *handle, unsigned file, uint64_t offset, const void *bytes, size_t count, size_t *done)
 {
     size_t counted = 0;
-    int code = enter(handle, count == 0 || bytes);
+    int code = enter_unless(handle, judge_bytes(bytes, count));
     if (code == FAMSYNC_OK)
         code = leave(handle, write_file(handle, file, offset, bytes, count, &counted));
     if (done)
         *done = counted;
-    return code;
+    return answer(handle, __func__, code);
 }
 
 /* Asks for another length of a file, as often as a block is wanted for it. */
@@ -193,13 +225,28 @@ static int ask_length(famsync *handle, unsigned file, uint64_t length)
     }
 }
 
+/* Explains why the core refused a length. */
+static int refused_length(famsync *handle, const struct file *file, uint64_t length, int code)
+{
+    uint64_t pages = length / PAGE + (length % PAGE != 0) - file->length / PAGE;
+    if (code == FAMSYNC_EINVAL)
+        return explain(code, "\"%s\" can't have the length %llu", file->name, (unsigned long long)length);
+    if (code != FAMSYNC_NOFRAME || length <= file->length)
+        return code;
+    return explain(code, "%llu pages for \"%s\" and %lld waiting pages; one commit can have at most %u",
+                   (unsigned long long)pages, file->name,
+                   (long long)famsync_core_staged(handle->core, &handle->core.at), handle->frames);
+}
+
 /* Of a file that becomes longer the core has the page in which it ended, and those behind it. */
 int set_length(famsync *handle, unsigned number, uint64_t length)
 {
     struct file *file = &handle->file[number];
     uint64_t before = file->length;
     int code = ask_length(handle, number, length);
-    if (code != FAMSYNC_OK || length == before)
+    if (code != FAMSYNC_OK)
+        return refused_length(handle, file, length, code);
+    if (length == before)
         return code;
     if (length > before)
         widen(&file->staged, before / PAGE, (length + PAGE - 1) / PAGE);
@@ -208,20 +255,24 @@ int set_length(famsync *handle, unsigned number, uint64_t length)
     return FAMSYNC_OK;
 }
 
-int famsync_setlength(famsync *handle, const char *file, uint64_t length)
+static int set_length_of(famsync *handle, const char *file, uint64_t length)
 {
+    unsigned number = number_of(handle, file);
     famsync_memory *memory;
-    unsigned number;
-    int code = enter(handle, file != NULL);
-    if (code != FAMSYNC_OK)
-        return code;
-    number = number_of(handle, file);
     if (number == handle->files)
-        return leave(handle, FAMSYNC_NOFILE);
+        return no_such_name(file);
     if (handle->volume.readonly)
-        return leave(handle, FAMSYNC_READONLY);
+        return FAMSYNC_READONLY;
     memory = memory_of_file(handle, number);
     if (memory && handle->fixed)
-        return leave(handle, FAMSYNC_OVERLAP);
-    return leave(handle, memory ? resize_memory(memory, length) : set_length(handle, number, length));
+        return memory_is_open(file);
+    return memory ? resize_memory(memory, length) : set_length(handle, number, length);
+}
+
+int famsync_setlength(famsync *handle, const char *file, uint64_t length)
+{
+    int code = enter_unless(handle, file ? NULL : "`file` is a null pointer");
+    if (code == FAMSYNC_OK)
+        code = leave(handle, set_length_of(handle, file, length));
+    return answer(handle, __func__, code);
 }

@@ -81,7 +81,7 @@ static int check_lengths(const famsync *handle, const struct other *other)
 {
     for (const famsync_memory *memory = handle->memories; memory; memory = memory->next_one)
         if (handle->fixed && memory->length != other->length[memory->file])
-            return FAMSYNC_OVERLAP;
+            return memory_is_open(handle->file[memory->file].name);
     return FAMSYNC_OK;
 }
 
@@ -198,5 +198,7 @@ static int roll_back(famsync *handle)
 int famsync_rollback(famsync *handle)
 {
     int code = enter(handle, true);
-    return code == FAMSYNC_OK ? leave(handle, roll_back(handle)) : code;
+    if (code == FAMSYNC_OK)
+        code = leave(handle, roll_back(handle));
+    return answer(handle, __func__, code);
 }

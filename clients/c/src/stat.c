@@ -24,9 +24,11 @@ int famsync_stat(famsync *handle, struct famsync_stat *stat)
 {
     struct famsync_stat found = {0};
     size_t size;
-    int code = enter(handle, stat && stat->size >= FIRST_SIZE);
+    int code = enter_unless(handle, !stat                     ? "`stat` is a null pointer"
+                                    : stat->size < FIRST_SIZE ? "`size` is too small"
+                                                              : NULL);
     if (code != FAMSYNC_OK)
-        return code;
+        return answer(handle, __func__, code);
     fill(handle, &found);
     found.size = size = stat->size;
     memset(stat, 0, size);

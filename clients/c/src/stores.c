@@ -273,13 +273,14 @@ static int store_run(famsync_memory *memory, size_t first, size_t end)
     return write_range(memory->handle, memory->file, begin, memory->copy + begin, stop - begin, &done);
 }
 
-/* Whether the next commit has room for these pages of plain memory, which are closed, and for those of the core. */
-static bool has_room(famsync *handle, uint64_t pages)
+/* Judges whether the next commit has room for these pages of plain memory, which are closed, and for those of the core.
+ */
+static int judge_room(famsync *handle, uint64_t pages)
 {
     uint64_t count = pages + (uint64_t)famsync_core_staged(handle->core, &handle->core.at);
     for (famsync_memory *memory = handle->memories; memory && count > handle->frames; memory = memory->next_one)
         count -= staged_in(memory);
-    return count <= handle->frames;
+    return count <= handle->frames ? FAMSYNC_OK : explain_no_frame(handle, "this commit has", count);
 }
 
 int close_stores(famsync *handle, uint64_t *pages)
@@ -297,8 +298,8 @@ static int close_and_copy(famsync *handle)
 {
     uint64_t pages;
     int code = close_stores(handle, &pages);
-    if (code == FAMSYNC_OK && !has_room(handle, pages))
-        code = FAMSYNC_NOFRAME;
+    if (code == FAMSYNC_OK)
+        code = judge_room(handle, pages);
     for (famsync_memory *memory = handle->memories; memory && code == FAMSYNC_OK; memory = memory->next_one) {
         end_taking(memory);
         memory->takes = memory->open;
@@ -349,7 +350,7 @@ static int take_pages(famsync *handle)
             put_back(handle);
     }
     unlock_pages(handle, &blocked);
-    return code;
+    return code == FAMSYNC_BUSY ? explain(code, "a thread stored to plain memory during the commit") : code;
 }
 
 int take_stores(famsync *handle)

@@ -365,7 +365,7 @@ int open_volume_file(const char *path, const struct famsync_options *options, st
         code = open_unlocked(volume);
     error = errno;
     if (code != FAMSYNC_OK) {
-        say(message, "\"%s\": %s", path, code == FAMSYNC_SYSTEM ? strerror(error) : famsync_strerror(code));
+        say_why(message, path, code);
     } else {
         code = judge_opened(volume, options->trust != 0, message);
         error = errno;

@@ -2,6 +2,7 @@
    mapping. Whichever call lacks it answers so, and can be made again. Nothing that was committed is lost. */
 #include "test.h"
 
+#include <dlfcn.h>
 #include <stdatomic.h>
 #include <sys/mman.h>
 
@@ -132,6 +133,7 @@ static bool made(int (*call)(void))
         return true;
     if (!is_over && !lacks_memory(code) && !(call == open_memory_again && code == FAMSYNC_ADDRESS))
         WANT_CODE(code, FAMSYNC_NOMEMORY);
+    WANT(is_over || strlen(famsync_error(call == open_session ? NULL : handle)) > 0);
     if (code == FAMSYNC_DEVICE)
         is_over = call() == FAMSYNC_BROKEN;
     else if (!is_over)
@@ -279,6 +281,36 @@ static void no_mapping(void)
     WANT_CODE(famsync_close(handle), FAMSYNC_OK);
 }
 
+static int (*touch_loaded)(famsync_memory *memory, size_t offset, size_t count);
+static const char *(*error_loaded)(const famsync *handle);
+
+/* A thread's first failed call requests no memory, not even for the thread's text. */
+static void *fail_first(void *unused)
+{
+    refused = -1;
+    requests = 0;
+    WANT_CODE(touch_loaded(NULL, 0, 1), FAMSYNC_ARGUMENT);
+    WANT(strstr(error_loaded(NULL), "famsync_memory_touch: ") && requests == 0);
+    refused = 0;
+    return unused;
+}
+
+/* The shared library is loaded after the process has begun, as Python does. */
+static void in_a_loaded_library(const char *program)
+{
+    const char *slash = strrchr(program, '/');
+    char path[400];
+    pthread_t thread;
+    WANT(slash != NULL);
+    snprintf(path, sizeof path, "%.*s/libfamsync.so", (int)(slash - program), program);
+    void *library = dlopen(path, RTLD_NOW | RTLD_LOCAL);
+    WANT(library != NULL);
+    *(void **)&touch_loaded = dlsym(library, "famsync_memory_touch");
+    *(void **)&error_loaded = dlsym(library, "famsync_error");
+    WANT(touch_loaded && error_loaded && pthread_create(&thread, NULL, fail_first, NULL) == 0);
+    WANT(pthread_join(thread, NULL) == 0);
+}
+
 /* Whether the system can track stores. */
 static bool tracks(void)
 {
@@ -286,8 +318,10 @@ static bool tracks(void)
     return open_session() == FAMSYNC_OK && famsync_close(handle) == FAMSYNC_OK;
 }
 
-int main(void)
+int main(int count, char **words)
 {
+    WANT(count > 0);
+    in_a_loaded_library(words[0]);
     for (int way = 0; way < 3; way++) {
         options = (struct famsync_options){.size = sizeof options,
                                            .foreground = 1,

@@ -3,9 +3,11 @@
 from __future__ import annotations
 
 import ctypes
+import errno
 import os
+from typing import Dict, Type
 
-from ._library import words
+from ._library import why, words
 
 
 class Error(Exception):
@@ -38,6 +40,14 @@ class System(Error, OSError):
     """A system call failed; `errno` has the cause."""
 
     code = -3
+
+
+class NotFound(System, FileNotFoundError):
+    """A file or a folder doesn't exist."""
+
+
+class Exists(System, FileExistsError):
+    """A file already exists."""
 
 
 class InUse(Error):
@@ -181,16 +191,20 @@ class Tracking(Error):
 
 CLASSES = {kind.code: kind for kind in Error.__subclasses__()}
 
+# System, for numbers for which Python has a class.
+_BY_ERRNO: Dict[int, Type[System]] = {errno.ENOENT: NotFound, errno.EEXIST: Exists}
+
 
 def check(code: int, message: str = "", done: int = 0, read: bytes = b"") -> None:
-    """Raises the error of a code other than 0. Without `message` the error has the library's description of the
-    code."""
+    """Raises the error of a code other than 0, which this thread's last call of the library returned. Without `message`
+    the error has the library's text about this call."""
     if code == 0:
         return
     kind, error = CLASSES.get(code, Error), ctypes.get_errno()
+    said = message or why() or words(code)
     if issubclass(kind, OSError):
-        said = os.strerror(error) if kind is System else f"{words(code)}: {os.strerror(error)}"
-        raise kind(error, message or said, done=done, read=read)
-    raised = kind(message or words(code), done=done, read=read)
+        kind = _BY_ERRNO.get(error, kind) if kind is System else kind
+        raise kind(error, said, done=done, read=read)
+    raised = kind(said, done=done, read=read)
     raised.code = code
     raise raised

@@ -86,6 +86,7 @@ CALLS = {
     "famsync_rollback": (c_int, c_void_p),
     "famsync_acknowledged": (c_uint64, c_void_p),
     "famsync_strerror": (c_char_p, c_int),
+    "famsync_error": (c_char_p, c_void_p),
     "famsync_stat": (c_int, c_void_p, POINTER(Stat)),
     "famsync_backup": (c_int, c_void_p, c_int),
     "famsync_memory_open": (c_int, c_void_p, c_char_p, POINTER(c_void_p)),
@@ -132,3 +133,9 @@ def words(code: int) -> str:
     """Returns the library's description of a code."""
     text: bytes = library.famsync_strerror(code)
     return text.decode()
+
+
+def why() -> str:
+    """Returns the library's text about the last failed call of this thread."""
+    text: bytes = library.famsync_error(None)
+    return text.decode("utf-8", "replace")

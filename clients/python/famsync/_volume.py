@@ -12,7 +12,7 @@ from typing import Any, Dict, Iterator, List, NamedTuple, NoReturn, Optional, Tu
 
 from . import _library
 from ._errors import Argument, Broken, Busy, Error, NoFile, Overlap, check
-from ._library import Options, library, words
+from ._library import Options, library
 from ._memory import Lent, Memory, open_memory
 from ._session import Once, Session
 
@@ -246,7 +246,7 @@ class Volume:
     def _number_of(self, name: str) -> int:
         number = self._numbers.get(os.fsdecode(_name(name)))
         if number is None:
-            raise NoFile(words(NoFile.code))
+            raise NoFile(f"the volume has no file {name!r}")
         return number
 
     def stat(self) -> Stat:

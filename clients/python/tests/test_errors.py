@@ -8,6 +8,7 @@ import resource
 import socket
 import unittest
 from contextlib import contextmanager
+from pathlib import Path
 
 from support import PACKAGE, PAGE, TOP, InAFolder, famsync
 from famsync import _errors
@@ -56,6 +57,8 @@ class Classes(unittest.TestCase):
         self.assertTrue(issubclass(famsync.NoMemory, MemoryError))
         for kind in (famsync.System, famsync.Device, famsync.Broken, famsync.Unmarked):
             self.assertTrue(issubclass(kind, OSError))
+        for kind, other in ((famsync.NotFound, FileNotFoundError), (famsync.Exists, FileExistsError)):
+            self.assertTrue(issubclass(kind, famsync.System) and issubclass(kind, other))
 
     def test_a_code_of_a_later_library(self):
         with self.assertRaises(famsync.Error) as caught:
@@ -64,6 +67,7 @@ class Classes(unittest.TestCase):
 
     def test_they_can_be_pickled(self):
         kept = [famsync.System(2, "nowhere"), famsync.Device(28, "full"), famsync.NoFrame("full", done=3, read=b"abc")]
+        kept.append(famsync.NotFound(2, "nowhere"))
         for error in kept:
             again = pickle.loads(pickle.dumps(error))
             self.assertEqual((type(again), again.args, again.done), (type(error), error.args, error.done))
@@ -77,6 +81,9 @@ class Opening(InAFolder):
 
     def test_paths(self):
         self.assertEqual(self.refuses(famsync.System, "nowhere.img").errno, 2)
+        self.assertEqual(self.refuses(FileNotFoundError, "nowhere/v.img").code, famsync.System.code)
+        self.assertRaisesRegex(FileExistsError, "v.img", famsync.create, "v.img", {"a": 1})
+        self.refuses(famsync.System, "v.img/v.img", said=os.strerror(errno.ENOTDIR))
         self.refuses(famsync.NotRegular, ".")
         self.refuses(famsync.NotRegular, "/dev/null")
         with socket.socket(socket.AF_UNIX) as bound:
@@ -136,6 +143,22 @@ class InASession(InAFolder):
             self.assertRaises(TypeError, volume.read, "a", place)
             self.assertRaises(TypeError, volume.write, "a", place, b"x")
         self.assertEqual(volume.commit(), 1)
+
+    def says(self, text, kind, call, *arguments):
+        with self.assertRaises(kind) as caught:
+            call(*arguments)
+        self.assertEqual(str(caught.exception), text)
+
+    def test_texts(self):
+        volume = self.opened()
+        past = 'famsync_write: offset 4900 with 101 bytes ends past the 5000 bytes of "b"'
+        self.says(past, famsync.Invalid, volume.write, "b", 4900, bytes(101))
+        pages = "famsync_write: the range has 9 pages; one commit can have at most 8"
+        self.says(pages, famsync.NoFrame, volume.write, "a", 1, bytes(8 * PAGE))
+        self.says('famsync_memory_open: the volume has no file "c"', famsync.NoFile, volume.memory, "c")
+        self.says("the volume has no file 'c'", famsync.NoFile, volume.read, "c")
+        own = "famsync_backup: the backup's file is the volume's file"
+        self.says(own, famsync.Argument, volume.backup, Path("v.img"))
 
     def test_invalid_in_a_layout_without_lengths(self):
         self.assertRaises(famsync.Invalid, self.opened().set_length, "a", 5000)

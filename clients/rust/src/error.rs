@@ -2,7 +2,7 @@
 
 use crate::ffi;
 use std::ffi::{c_int, CStr};
-use std::{fmt, io};
+use std::{fmt, io, ptr};
 
 macro_rules! codes {
     ($($(#[$words:meta])* $name:ident = $number:literal,)*) => {
@@ -120,8 +120,10 @@ impl Error {
     /// With the line that the library wrote about it, up to a null byte, if there is one.
     pub(crate) fn saying(self, line: &[u8]) -> Error {
         let line = line.split(|byte| *byte == 0).next().unwrap_or_default();
-        let message = (!line.is_empty()).then(|| String::from_utf8_lossy(line).into_owned());
-        Error { message, ..self }
+        if line.is_empty() {
+            return self;
+        }
+        Error { message: Some(String::from_utf8_lossy(line).into_owned()), ..self }
     }
 
     pub(crate) fn after(self, done: usize) -> Error {
@@ -169,5 +171,7 @@ pub(crate) fn check(answer: c_int) -> Result<(), Error> {
     }
     let system = io::Error::last_os_error();
     let code = Code::from(answer);
-    Err(Error { system: code.is_of_the_system().then_some(system), ..Error::new(code) })
+    // Safety: it answers a string that stays as it is until this thread's next failed call.
+    let text = unsafe { CStr::from_ptr(ffi::famsync_error(ptr::null())) };
+    Err(Error { system: code.is_of_the_system().then_some(system), ..Error::new(code) }.saying(text.to_bytes()))
 }

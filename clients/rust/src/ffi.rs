@@ -101,6 +101,7 @@ extern "C" {
     pub fn famsync_rollback(handle: *mut Famsync) -> c_int;
     pub fn famsync_acknowledged(handle: *mut Famsync) -> u64;
     pub fn famsync_strerror(code: c_int) -> *const c_char;
+    pub fn famsync_error(handle: *const Famsync) -> *const c_char;
     pub fn famsync_stat(handle: *mut Famsync, stat: *mut FamsyncStat) -> c_int;
     pub fn famsync_backup(handle: *mut Famsync, descriptor: c_int) -> c_int;
     pub fn famsync_memory_open(handle: *mut Famsync, file: *const c_char, memory: *mut *mut FamsyncMemory) -> c_int;

@@ -105,7 +105,8 @@ impl Options {
     /// Opens a volume: a regular file with one name that `famsync format` made. It is locked until the volume is
     /// dropped. The error says in words what is wrong with which file.
     pub fn open(&self, path: impl AsRef<Path>) -> Result<Volume, Error> {
-        let name = CString::new(path.as_ref().as_os_str().as_bytes()).map_err(|_| Error::new(Code::Argument))?;
+        let name = CString::new(path.as_ref().as_os_str().as_bytes())
+            .map_err(|_| Error::with_message(Code::Argument, "a path has no null byte".to_string()))?;
         let mut message = vec![0u8; MESSAGE];
         let options = ffi::FamsyncOptions {
             size: mem::size_of::<ffi::FamsyncOptions>(),

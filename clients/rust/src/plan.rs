@@ -88,9 +88,12 @@ impl Plan {
         if self.layout == 0 || self.slots == Some(0) || self.log == Some(0) {
             return Err(Error::with_message(Code::Argument, "a volume has a layout, and slots or a log".to_string()));
         }
-        let text = |bytes: &[u8]| CString::new(bytes).map_err(|_| Error::new(Code::Argument));
-        let path = text(path.as_ref().as_os_str().as_bytes())?;
-        let names = self.files.iter().map(|(name, ..)| text(name.as_bytes())).collect::<Result<Vec<_>, _>>()?;
+        let text = |bytes: &[u8], what: &str| {
+            CString::new(bytes).map_err(|_| Error::with_message(Code::Argument, format!("{what} has no null byte")))
+        };
+        let path = text(path.as_ref().as_os_str().as_bytes(), "a path")?;
+        let name = |name: &String| text(name.as_bytes(), "a file's name");
+        let names = self.files.iter().map(|(named, ..)| name(named)).collect::<Result<Vec<_>, _>>()?;
         let files: Vec<_> = names
             .iter()
             .zip(&self.files)

@@ -431,7 +431,9 @@ impl Volume {
     pub fn touch(&mut self, file: &str, range: impl RangeBounds<u64>) -> Result<(), Error> {
         self.opened(file)?;
         let plain = self.slot_mut(file)?.plain_mut().ok_or(Error::new(Code::Argument))?;
-        let (begin, count) = part(range, plain.length() as u64).ok_or(Error::new(Code::Argument))?;
+        let bytes = part(range, plain.length() as u64);
+        let (begin, count) =
+            bytes.ok_or_else(|| Error::with_message(Code::Argument, "the range ends before it begins".to_string()))?;
         plain.touch(begin, count)
     }
 

@@ -29,6 +29,28 @@ fn arguments() {
     assert_eq!(code(volume.touch("b", ..)), Code::NoFile);
 }
 
+/// The text of the error of a call that is refused.
+#[track_caller]
+fn text<T>(answer: Result<T, Error>) -> String {
+    answer.err().expect("the call is to be refused").to_string()
+}
+
+#[test]
+fn texts() {
+    let made = make_volume(4, 8, "a=65536 b=8192/40000");
+    let mut volume = Volume::open(made.path()).unwrap();
+    let touched = "famsync_memory_touch: offset 8000 with 193 bytes ends past the 8192 bytes of \"b\"";
+    assert_eq!(text(volume.touch("b", 8000..8193)), touched);
+    let written = "famsync_write: offset 65500 with 100 bytes ends past the 65536 bytes of \"a\"";
+    assert_eq!(text(volume.write("a", 65500, &[1; 100])), written);
+    volume.memory_mut("a").unwrap()[..40000].fill(1);
+    let refused = volume.commit().unwrap_err();
+    let too_many = "famsync_msync: this commit has 10 pages; one commit can have at most 7";
+    assert_eq!((refused.code(), refused.to_string().as_str()), (Code::NoFrame, too_many));
+    assert_eq!(text(Volume::open("a\0b")), "a path has no null byte");
+    assert_eq!(text(Volume::open("")), "famsync_open: the path is empty");
+}
+
 #[test]
 fn names_of_files() {
     let mut volume = Volume::open(make_volume(1, 16, "a=8192").path()).unwrap();
