@@ -69,10 +69,12 @@ static int failed_again(const struct database *database, int code)
  * all of its rows are there. So these bytes are changed to those of a rollback journal wherever they come by.
  */
 #define HEAD 100
+#define PAGE_SIZE 16 /* a number of 2 bytes, of which 1 means 65,536 */
 #define WRITE_VERSION 18
 #define READ_VERSION 19
 #define CHANGES 24   /* a number of 4 bytes that each transaction adds 1 to */
-#define VALID_FOR 92 /* the same number again */
+#define PAGES 28     /* a number of 4 bytes: how many pages the database has */
+#define VALID_FOR 92 /* the number of changes again; if it differs, the number of pages isn't known */
 #define WITH_JOURNAL 1
 #define WITH_WAL 2
 
@@ -206,31 +208,64 @@ static int write_database(sqlite3_file *file, const void *bytes, int count, sqli
     return code;
 }
 
+static bool is_committed(const struct database *database)
+{
+    return database->waiting == 0 && database->size == database->kept;
+}
+
+/* SQLite truncates a database after its transaction was committed. So the end of this transaction has the new size. */
 static int truncate_database(sqlite3_file *file, sqlite3_int64 size)
 {
     struct database *database = (struct database *)file;
     if (size > database->room)
         return SQLITE_FULL;
+    if (is_committed(database))
+        database->kept = size;
     database->size = size;
     return SQLITE_OK;
 }
 
-static int store_size(struct database *database)
+/* The number in some bytes, of which the first counts most. */
+static uint64_t number_in(const unsigned char *bytes, int count)
+{
+    uint64_t number = 0;
+    for (int i = 0; i < count; i++)
+        number = number << 8 | bytes[i];
+    return number;
+}
+
+/*
+ * The size that the database has after this commit. The first page has the number of pages to which SQLite truncates
+ * the database after the commit. This size is a part of the commit, so that no kill comes in between. But the present
+ * size stays: SQLite may still roll back the transaction, if another database of it fails, and then wants all pages.
+ */
+static sqlite3_int64 size_after(const struct database *database)
+{
+    const unsigned char *head = database->waits[1];
+    uint64_t page_size, size;
+    if (!head || memcmp(head + CHANGES, head + VALID_FOR, 4) != 0)
+        return database->size;
+    page_size = number_in(head + PAGE_SIZE, 2);
+    size = number_in(head + PAGES, 4) * (page_size == 1 ? 65536 : page_size);
+    return size > 0 && size < (uint64_t)database->size ? (sqlite3_int64)size : database->size;
+}
+
+static int store_size(struct database *database, sqlite3_int64 size)
 {
     unsigned char head[24] = MAGIC;
     for (int i = 0; i < 8; i++)
-        head[16 + i] = (unsigned char)((uint64_t)database->size >> (56 - 8 * i));
+        head[16 + i] = (unsigned char)((uint64_t)size >> (56 - 8 * i));
     return famsync_write(database->volume, database->number, 0, head, sizeof head, NULL);
 }
 
-static int store_waiting(struct database *database)
+static int store_waiting(struct database *database, sqlite3_int64 size)
 {
     int code = FAMSYNC_OK;
     for (unsigned i = 0; i < database->waiting && code == FAMSYNC_OK; i++) {
         size_t page = database->order[i];
         code = famsync_write(database->volume, database->number, page * PAGE, database->waits[page], PAGE, NULL);
     }
-    return code == FAMSYNC_OK && database->size != database->kept ? store_size(database) : code;
+    return code == FAMSYNC_OK && size != database->stored ? store_size(database, size) : code;
 }
 
 /* A commit failed. The session may have a part of it, which no later commit may have. */
@@ -245,19 +280,22 @@ static int tear(struct database *database, int code)
 static int sync_database(sqlite3_file *file, int flags)
 {
     struct database *database = (struct database *)file;
+    sqlite3_int64 size;
     int code;
     (void)flags;
     if (database->torn)
         return failed_again(database, SQLITE_IOERR_FSYNC);
-    if (database->waiting == 0 && database->size == database->kept)
+    if (is_committed(database))
         return SQLITE_OK;
-    code = store_waiting(database);
+    size = size_after(database);
+    code = store_waiting(database, size);
     if (code == FAMSYNC_OK)
         code = famsync_msync(database->volume, NULL);
     if (code != FAMSYNC_OK)
         return tear(database, code);
     drop_waiting(database);
     database->kept = database->size;
+    database->stored = size;
     return SQLITE_OK;
 }
 
@@ -355,17 +393,16 @@ static int read_size(struct database *database)
 {
     static const unsigned char nothing[24];
     unsigned char head[24];
-    uint64_t size = 0;
+    uint64_t size;
     int code = famsync_read(database->volume, database->number, 0, head, sizeof head, NULL);
     if (code != FAMSYNC_OK)
         return fail(code_for(code, SQLITE_IOERR_READ), 0, "\"%s\": %s", database->path, famsync_strerror(code));
     if (memcmp(head, nothing, sizeof head) == 0)
         return SQLITE_OK;
-    for (int i = 0; i < 8; i++)
-        size = size << 8 | head[16 + i];
+    size = number_in(head + 16, 8);
     if (memcmp(head, MAGIC, 16) != 0 || size > (uint64_t)database->room)
         return fail(SQLITE_NOTADB, 0, "\"%s\": its file has other bytes than a database of this VFS", database->path);
-    database->size = database->kept = (sqlite3_int64)size;
+    database->size = database->kept = database->stored = (sqlite3_int64)size;
     return SQLITE_OK;
 }
 

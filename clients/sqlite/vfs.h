@@ -27,7 +27,8 @@ struct database {
                               begins in the second page of this file */
     sqlite3_int64 room;    /* the most bytes that the database can have */
     sqlite3_int64 size;    /* the present size of the database in bytes */
-    sqlite3_int64 kept;    /* the size at the last commit */
+    sqlite3_int64 kept;    /* the size at the end of the last transaction */
+    sqlite3_int64 stored;  /* the size in the volume */
     unsigned char **waits; /* for each page its uncommitted bytes in `pages`, or null */
     unsigned char *pages;  /* the uncommitted pages in the order of their first writes, and room
                               for one more */

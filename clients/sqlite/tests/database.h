@@ -73,4 +73,14 @@ static inline bool answers(sqlite3 *database, const char *statements, const char
     return false;
 }
 
+/* The size of a database's file, as SQLite finds it. */
+static inline sqlite3_int64 size_of(sqlite3 *database, const char *schema)
+{
+    sqlite3_file *file;
+    sqlite3_int64 size;
+    WANT(sqlite3_file_control(database, schema, SQLITE_FCNTL_FILE_POINTER, &file) == SQLITE_OK);
+    WANT(file->pMethods->xFileSize(file, &size) == SQLITE_OK);
+    return size;
+}
+
 #endif

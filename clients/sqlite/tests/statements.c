@@ -51,6 +51,15 @@ static void stop(const char *what)
     exit(1);
 }
 
+/* Ours ends with its last page, also where pages were given back. */
+static void want_size(void)
+{
+    char text[100];
+    snprintf(text, sizeof text, "SELECT page_count * page_size = %lld FROM pragma_page_count, pragma_page_size",
+             (long long)size_of(ours, "main"));
+    WANT(answers(ours, text, "1"));
+}
+
 /* Both have the same rows, and ours is whole. */
 static void compare(void)
 {
@@ -73,6 +82,7 @@ static void compare(void)
     if (found != SQLITE_DONE || sqlite3_finalize(one) || sqlite3_finalize(other))
         stop("no end of rows");
     WANT(answers(ours, "PRAGMA integrity_check", "ok"));
+    want_size();
 }
 
 /* A transaction that is too large is over for both. */
