@@ -246,10 +246,12 @@ int famsync_close(famsync *handle);
 /* famsync_files returns the number of files of the volume. Files are numbered from 0.
    famsync_file_name returns the name of a file, or a null pointer if there is no such file.
    famsync_file_length returns the current length of a file, or 0 if there is no such file. The
-   current length may still be uncommitted. */
+   current length may still be uncommitted. famsync_file_capacity returns the greatest length that a
+   file can have, or 0 if there is no such file. */
 unsigned famsync_files(const famsync *handle);
 const char *famsync_file_name(const famsync *handle, unsigned file);
 uint64_t famsync_file_length(const famsync *handle, unsigned file);
+uint64_t famsync_file_capacity(const famsync *handle, unsigned file);
 
 /* Returns the greatest number of pages that one commit of this session can have. */
 unsigned famsync_frames(const famsync *handle);
@@ -379,6 +381,24 @@ struct famsync_stat {
 };
 
 int famsync_stat(famsync *handle, struct famsync_stat *stat);
+
+/* What a volume is. Set `size` to the size of this structure. FAMSYNC_ARGUMENT: `size` is too small
+   to include the field `readonly`. Later versions of the library may add fields after `readonly`.
+   If the structure has fields that the library doesn't know, famsync_volume_info sets them to 0. */
+struct famsync_volume_info {
+    size_t size;
+    uint64_t layout;   /* 1 to 6 */
+    uint64_t blocks;   /* the number of blocks of the volume */
+    uint64_t files;    /* the number of files */
+    uint64_t slots;    /* layouts 1 to 4: the number of slots of each journal; otherwise 0 */
+    uint64_t log;      /* layouts 5 and 6: the number of blocks of the log; otherwise 0 */
+    uint64_t log_used; /* the number of the log's blocks in use */
+    uint64_t frames;   /* the most pages that one commit can have; the option `frames` can set a
+                          lower limit (see famsync_frames) */
+    uint64_t readonly; /* 1 if the session only reads; otherwise 0 */
+};
+
+int famsync_volume_info(famsync *handle, struct famsync_volume_info *info);
 
 /* Makes a backup: a volume with all changes up to the last commit acknowledged before the backup
    began. Opening the backup needs no recovery. The call empties the file that `descriptor` refers

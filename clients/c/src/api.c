@@ -56,8 +56,17 @@ unsigned number_of(const famsync *handle, const char *name)
     return file;
 }
 
+static uint64_t number_in(const unsigned char *bytes, unsigned count)
+{
+    uint64_t number = 0;
+    for (unsigned i = 0; i < count; i++)
+        number = number << 8 | bytes[i];
+    return number;
+}
+
 /* What the super block says: how many blocks the core is to know of, which are no more than the file has. A file that
-   doesn't begin as a volume is judged by its first block. */
+   doesn't begin as a volume is judged by its first block. What the core doesn't answer later is noted, and is right
+   once the core has opened the volume. */
 static int read_super(famsync *handle)
 {
     uint64_t blocks = handle->volume.bytes / PAGE, said;
@@ -65,7 +74,11 @@ static int read_super(famsync *handle)
     int code = blocks == 0 ? FAMSYNC_NOTAVOLUME : read_blocks(handle, 0, 1, handle->read);
     if (code != FAMSYNC_OK)
         return code;
-    said = (uint64_t)head[16] << 24 | (uint64_t)head[17] << 16 | (uint64_t)head[18] << 8 | head[19];
+    handle->layout = head[7] - (unsigned)'0';
+    handle->slots = (uint32_t)number_in(head + 12, 4);
+    for (unsigned i = 0; i < MOST_FILES; i++)
+        handle->file[i].capacity = number_in(head + 64 + 48 * (size_t)i, 8);
+    said = number_in(head + 16, 4);
     if (memcmp(head, "FAMSYNC", 7) != 0 || said == 0)
         said = 1;
     handle->blocks = (uint32_t)(said < blocks ? said : blocks);
@@ -115,6 +128,8 @@ static int read_volume(famsync *handle, unsigned wanted)
     handle->head = (uint32_t)head;
     handle->shares_syncs = famsync_core_shares_syncs(handle->core, &handle->core.at) == 1;
     handle->log.blocks = blocks_of_log(handle);
+    if (handle->log.blocks > 0)
+        handle->slots = 0;
     return read_files(handle);
 }
 
@@ -376,6 +391,11 @@ const char *famsync_file_name(const famsync *handle, unsigned file)
 uint64_t famsync_file_length(const famsync *handle, unsigned file)
 {
     return handle && file < handle->files ? atomic_load(&handle->file[file].length) : 0;
+}
+
+uint64_t famsync_file_capacity(const famsync *handle, unsigned file)
+{
+    return handle && file < handle->files ? handle->file[file].capacity : 0;
 }
 
 unsigned famsync_frames(const famsync *handle)

@@ -103,6 +103,12 @@ static uint32_t most_records(uint64_t log)
     return records;
 }
 
+uint64_t most_pages(const famsync *handle)
+{
+    uint64_t records = handle->log.blocks > 0 ? most_records(handle->log.blocks) : handle->slots;
+    return records - (handle->layout >= FIRST_WITH_LENGTHS);
+}
+
 /* The most slots of a journal. A descriptor is one block, until commits share syncs. */
 static unsigned most_slots(unsigned layout)
 {

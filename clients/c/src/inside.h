@@ -72,6 +72,7 @@ struct file {
     char name[MOST_NAME + 1];
     _Atomic uint64_t length; /* in bytes; set with `turn` held, read by any thread */
     uint64_t pages;          /* the most pages that the file can have */
+    uint64_t capacity;       /* the most bytes that the file can have */
     uint64_t home;           /* the home block of the file's first page */
     struct span staged;      /* contains each page that waits in the core for a commit */
 };
@@ -153,6 +154,8 @@ struct famsync {
     unsigned files;
     struct file file[MOST_FILES];
     unsigned frames;
+    unsigned layout;   /* the volume's layout */
+    uint32_t slots;    /* the number of slots of each journal; 0 if the volume has a log */
     uint32_t blocks;   /* the number of blocks of the volume */
     uint32_t head;     /* the first block of the first file; 0 until the core has opened the
                           volume */
@@ -365,6 +368,8 @@ void end_tracking(struct tracker *tracker);
 /* format.c: writes the first start of a log to the file of a new volume. This log has no
    commits. */
 int write_first_start(int file);
+/* The most pages that a commit of a volume can have. */
+uint64_t most_pages(const famsync *handle);
 
 /* backup.c: writes all `count` bytes to a file. */
 int write_whole(int file, const unsigned char *bytes, size_t count, uint64_t offset);

@@ -229,8 +229,11 @@ static int ask_length(famsync *handle, unsigned file, uint64_t length)
 static int refused_length(famsync *handle, const struct file *file, uint64_t length, int code)
 {
     uint64_t pages = length / PAGE + (length % PAGE != 0) - file->length / PAGE;
+    if (code == FAMSYNC_EINVAL && length > file->capacity)
+        return explain(code, "the length %llu exceeds the capacity of \"%s\", %llu", (unsigned long long)length,
+                       file->name, (unsigned long long)file->capacity);
     if (code == FAMSYNC_EINVAL)
-        return explain(code, "\"%s\" can't have the length %llu", file->name, (unsigned long long)length);
+        return explain(code, "in layout %u a file's length never changes", handle->layout);
     if (code != FAMSYNC_NOFRAME || length <= file->length)
         return code;
     return explain(code, "%llu pages for \"%s\" and %lld waiting pages; one commit can have at most %u",

@@ -156,7 +156,7 @@ static void files(void)
     WANT_TEXT(famsync_write(handle, 1, 9000, "x", 1, NULL), FAMSYNC_EINVAL,
               "famsync_write: offset 9000 with 1 bytes ends past the 8192 bytes of \"b\"");
     WANT_TEXT(famsync_setlength(handle, "b", 40001), FAMSYNC_EINVAL,
-              "famsync_setlength: \"b\" can't have the length 40001");
+              "famsync_setlength: the length 40001 exceeds the capacity of \"b\", 40000");
     WANT_CODE(famsync_memory_open(handle, "b", &memory), FAMSYNC_OK);
     WANT_TEXT(famsync_memory_open(handle, "b", &again), FAMSYNC_OVERLAP,
               "famsync_memory_open: plain memory of \"b\" is already open");

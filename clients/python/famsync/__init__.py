@@ -49,7 +49,7 @@ from ._errors import (
 )
 from ._library import version
 from ._memory import Memory
-from ._volume import Path, Stat, Volume
+from ._volume import Info, Path, Stat, Volume
 
 __version__ = "0.3.0"
 
@@ -65,6 +65,7 @@ __all__ = [
     "Exists",
     "Forked",
     "InUse",
+    "Info",
     "Invalid",
     "Memory",
     "NeedsOpening",

@@ -69,6 +69,22 @@ class Stat(ctypes.Structure):
     ]
 
 
+class VolumeInfo(ctypes.Structure):
+    """struct famsync_volume_info"""
+
+    _fields_ = [
+        ("size", c_size_t),
+        ("layout", c_uint64),
+        ("blocks", c_uint64),
+        ("files", c_uint64),
+        ("slots", c_uint64),
+        ("log", c_uint64),
+        ("log_used", c_uint64),
+        ("frames", c_uint64),
+        ("readonly", c_uint64),
+    ]
+
+
 # Of each call what it answers, and what it takes.
 CALLS = {
     "famsync_version": (c_char_p,),
@@ -78,6 +94,7 @@ CALLS = {
     "famsync_files": (c_uint, c_void_p),
     "famsync_file_name": (c_char_p, c_void_p, c_uint),
     "famsync_file_length": (c_uint64, c_void_p, c_uint),
+    "famsync_file_capacity": (c_uint64, c_void_p, c_uint),
     "famsync_frames": (c_uint, c_void_p),
     "famsync_setlength": (c_int, c_void_p, c_char_p, c_uint64),
     "famsync_read": (c_int, c_void_p, c_uint, c_uint64, c_void_p, c_size_t, POINTER(c_size_t)),
@@ -88,6 +105,7 @@ CALLS = {
     "famsync_strerror": (c_char_p, c_int),
     "famsync_error": (c_char_p, c_void_p),
     "famsync_stat": (c_int, c_void_p, POINTER(Stat)),
+    "famsync_volume_info": (c_int, c_void_p, POINTER(VolumeInfo)),
     "famsync_backup": (c_int, c_void_p, c_int),
     "famsync_memory_open": (c_int, c_void_p, c_char_p, POINTER(c_void_p)),
     "famsync_memory_open_at": (c_int, c_void_p, c_char_p, c_void_p, POINTER(c_void_p)),

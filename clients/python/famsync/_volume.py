@@ -35,6 +35,19 @@ class Stat(NamedTuple):
     memory: int  # bytes of memory that the sessions of this process take for pages and commits
 
 
+class Info(NamedTuple):
+    """What a volume is, which `Volume.info` returns."""
+
+    layout: int  # 1 to 6
+    blocks: int  # blocks of the volume, of 4,096 bytes each
+    files: int  # the number of files
+    slots: int  # layouts 1 to 4: slots of each journal; otherwise 0
+    log: int  # layouts 5 and 6: blocks of the log; otherwise 0
+    log_used: int  # blocks of the log in use
+    frames: int  # the most pages that one commit can have; the option `frames` can set a lower limit
+    readonly: bool  # whether the session only reads
+
+
 def _number(value: Any, bits: int, what: str) -> int:
     """Returns a number. Raises Argument if it is negative or has more than `bits` bits."""
     number = operator.index(value)
@@ -75,6 +88,14 @@ def _files(handle: ctypes.c_void_p) -> Dict[str, int]:
     numbers = range(library.famsync_files(handle))
     return {
         library.famsync_file_name(handle, file).decode(): library.famsync_file_length(handle, file)
+        for file in numbers
+    }
+
+
+def _capacities(handle: ctypes.c_void_p) -> Dict[str, int]:
+    numbers = range(library.famsync_files(handle))
+    return {
+        library.famsync_file_name(handle, file).decode(): library.famsync_file_capacity(handle, file)
         for file in numbers
     }
 
@@ -167,6 +188,11 @@ class Volume:
         return self._session.call(_files)
 
     @property
+    def capacities(self) -> Dict[str, int]:
+        """The capacity (greatest length) of each file, by the file's name."""
+        return self._session.call(_capacities)
+
+    @property
     def frames(self) -> int:
         """The greatest number of pages (4,096 bytes) in one commit."""
         frames: int = self._session.call(library.famsync_frames)
@@ -254,6 +280,12 @@ class Volume:
         found = _library.Stat(size=ctypes.sizeof(_library.Stat))
         check(self._session.call(library.famsync_stat, ctypes.byref(found)))
         return Stat(*(getattr(found, name) for name in Stat._fields))
+
+    def info(self) -> Info:
+        """Returns what the volume is: its layout, its blocks, its log, its greatest commit."""
+        found = _library.VolumeInfo(size=ctypes.sizeof(_library.VolumeInfo))
+        check(self._session.call(library.famsync_volume_info, ctypes.byref(found)))
+        return Info(*(getattr(found, name) for name in Info._fields))._replace(readonly=found.readonly != 0)
 
     def backup(self, file: Union[Path, int, Any]) -> None:
         """Writes a volume with the files of the last acknowledged commit. Opening this volume needs no recovery. Other

@@ -6,7 +6,7 @@ import pathlib
 import threading
 import unittest
 
-from support import PAGE, InAFolder, famsync
+from support import PAGE, InAFolder, famsync, layouts_with_log
 
 
 class Backups(InAFolder):
@@ -94,6 +94,27 @@ class Numbers(InAFolder):
         self.assertTrue(after.reads > 0 and after.memory > 0)
         volume.close()
         self.assertRaises(ValueError, volume.stat)
+
+    def test_of_a_volume(self):
+        famsync.create("4.img", {"a": 65536, "b": (0, 5000)}, slots=8)
+        with famsync.open("4.img", frames=3) as volume:
+            blocks = os.path.getsize("4.img") // PAGE
+            self.assertEqual(volume.info(), famsync.Info(4, blocks, 2, 8, 0, 0, 7, False))
+            self.assertEqual((volume.frames, volume.capacities), (3, {"a": 65536, "b": 5000}))
+        with famsync.open("4.img", readonly=True) as volume:
+            self.assertIs(volume.info().readonly, True)
+        self.assertRaises(ValueError, volume.info)
+        self.assertRaises(ValueError, lambda: volume.capacities)
+
+    def test_of_a_volume_with_a_log(self):
+        for layout in layouts_with_log():
+            famsync.create("log.img", {"a": 65536}, layout=layout, log=20)
+            with famsync.open("log.img", foreground=True) as volume:
+                volume.write("a", 0, b"x")
+                volume.commit()
+                blocks = os.path.getsize("log.img") // PAGE
+                self.assertEqual(volume.info(), famsync.Info(layout, blocks, 1, 0, 20, 2, 17, False))
+            os.unlink("log.img")
 
 
 if __name__ == "__main__":

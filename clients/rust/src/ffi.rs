@@ -67,6 +67,20 @@ pub struct FamsyncStat {
     pub memory: u64,
 }
 
+#[repr(C)]
+#[derive(Default)]
+pub struct FamsyncVolumeInfo {
+    pub size: usize,
+    pub layout: u64,
+    pub blocks: u64,
+    pub files: u64,
+    pub slots: u64,
+    pub log: u64,
+    pub log_used: u64,
+    pub frames: u64,
+    pub readonly: u64,
+}
+
 pub const FAMSYNC_OK: c_int = 0;
 pub const FAMSYNC_TRACK_SIGNALS: c_int = 0;
 pub const FAMSYNC_TRACK_KERNEL: c_int = 1;
@@ -79,6 +93,7 @@ extern "C" {
     pub fn famsync_files(handle: *const Famsync) -> c_uint;
     pub fn famsync_file_name(handle: *const Famsync, file: c_uint) -> *const c_char;
     pub fn famsync_file_length(handle: *const Famsync, file: c_uint) -> u64;
+    pub fn famsync_file_capacity(handle: *const Famsync, file: c_uint) -> u64;
     pub fn famsync_frames(handle: *const Famsync) -> c_uint;
     pub fn famsync_setlength(handle: *mut Famsync, file: *const c_char, length: u64) -> c_int;
     pub fn famsync_read(
@@ -103,6 +118,7 @@ extern "C" {
     pub fn famsync_strerror(code: c_int) -> *const c_char;
     pub fn famsync_error(handle: *const Famsync) -> *const c_char;
     pub fn famsync_stat(handle: *mut Famsync, stat: *mut FamsyncStat) -> c_int;
+    pub fn famsync_volume_info(handle: *mut Famsync, info: *mut FamsyncVolumeInfo) -> c_int;
     pub fn famsync_backup(handle: *mut Famsync, descriptor: c_int) -> c_int;
     pub fn famsync_memory_open(handle: *mut Famsync, file: *const c_char, memory: *mut *mut FamsyncMemory) -> c_int;
     pub fn famsync_memory_open_at(

@@ -32,7 +32,7 @@ mod volume;
 pub use error::{Code, Error};
 pub use options::Options;
 pub use plan::Plan;
-pub use volume::{File, Stat, Volume};
+pub use volume::{File, Info, Stat, Volume};
 
 /// The version of the library that this program runs with.
 pub fn version() -> &'static str {

@@ -44,6 +44,11 @@ impl Session {
         // Safety: the session is open.
         unsafe { ffi::famsync_file_length(self.handle(), file) }
     }
+
+    fn file_capacity(&self, file: u32) -> u64 {
+        // Safety: the session is open.
+        unsafe { ffi::famsync_file_capacity(self.handle(), file) }
+    }
 }
 
 impl Drop for Session {
@@ -61,6 +66,8 @@ pub struct File<'a> {
     pub name: &'a str,
     /// Its length in bytes, as this session has set it.
     pub length: u64,
+    /// Its capacity: the greatest length that it can have.
+    pub capacity: u64,
 }
 
 /// A session with a volume, which is locked until this is dropped or [closed](Volume::close).
@@ -117,6 +124,7 @@ impl Volume {
         self.slots.iter().zip(0..).map(|(slot, number)| File {
             name: slot.name().to_str().unwrap_or_default(),
             length: self.session.file_length(number),
+            capacity: self.session.file_capacity(number),
         })
     }
 
@@ -549,8 +557,40 @@ pub struct Stat {
     pub memory: u64,
 }
 
+/// What a volume is, which [`Volume::info`] returns.
+#[derive(Clone, Copy, Debug, PartialEq, Eq)]
+#[non_exhaustive]
+pub struct Info {
+    /// Its layout, 1 to 6.
+    pub layout: u64,
+    /// The number of its blocks, of 4,096 bytes each.
+    pub blocks: u64,
+    /// The number of its files.
+    pub files: u64,
+    /// The number of slots of each journal; 0 if it has a log.
+    pub slots: u64,
+    /// The number of blocks of the log; 0 if it has journals.
+    pub log: u64,
+    /// The number of the log's blocks in use.
+    pub log_used: u64,
+    /// The most pages that one commit can have. [`Options::frames`](crate::Options::frames) can set a lower limit, see
+    /// [`Volume::frames`].
+    pub frames: u64,
+    /// Whether the session only reads.
+    pub readonly: bool,
+}
+
 /// Numbers and backups.
 impl Volume {
+    /// What the volume is: its layout, its blocks, its log, its greatest commit.
+    pub fn info(&self) -> Result<Info, Error> {
+        let mut found = ffi::FamsyncVolumeInfo { size: mem::size_of::<ffi::FamsyncVolumeInfo>(), ..Default::default() };
+        // Safety: the session is open, and there is as much room as it says.
+        check(unsafe { ffi::famsync_volume_info(self.session.handle(), &mut found) })?;
+        let ffi::FamsyncVolumeInfo { layout, blocks, files, slots, log, log_used, frames, readonly, .. } = found;
+        Ok(Info { layout, blocks, files, slots, log, log_used, frames, readonly: readonly != 0 })
+    }
+
     /// Numbers of this session. As [`dirty`](Volume::dirty) it looks at plain memory, so nobody may store meanwhile.
     pub fn stat(&mut self) -> Result<Stat, Error> {
         let mut found = ffi::FamsyncStat { size: mem::size_of::<ffi::FamsyncStat>(), ..Default::default() };

@@ -5,7 +5,7 @@ mod volumes;
 use famsync::{Code, Error, Options, Volume};
 use std::fs::{File, OpenOptions};
 use std::thread;
-use volumes::{make_volume, Made};
+use volumes::{layouts_with_log, log_blocks, make_volume, Made};
 
 fn refusal<T: std::fmt::Debug>(answer: Result<T, Error>) -> (Code, usize) {
     let error = answer.unwrap_err();
@@ -139,6 +139,26 @@ fn what_is_no_place_for_a_backup() {
     let other = Volume::open(made.beside("copy.img")).unwrap();
     assert_eq!(refusal(volume.backup(new_file(&made))).0, Code::InUse);
     drop(other);
+}
+
+#[test]
+fn numbers_of_a_volume() {
+    let made = make_volume(4, 8, "a=65536 b=0/5000");
+    let blocks = std::fs::metadata(made.path()).unwrap().len() / 4096;
+    let volume = Options::new().frames(3).open(made.path()).unwrap();
+    let info = volume.info().unwrap();
+    assert_eq!((info.layout, info.blocks, info.files, info.slots), (4, blocks, 2, 8));
+    assert_eq!((info.log, info.log_used, info.frames, info.readonly), (0, 0, 7, false));
+    assert_eq!((volume.frames(), volume.files().map(|file| file.capacity).collect()), (3, vec![65536, 5000]));
+    drop(volume);
+    assert!(Options::new().readonly(true).open(made.path()).unwrap().info().unwrap().readonly);
+    for layout in layouts_with_log() {
+        let volume = Options::new().foreground(true).open(make_volume(layout, 8, "a=65536").path()).unwrap();
+        volume.write("a", 0, b"x").unwrap();
+        volume.commit().unwrap();
+        let info = volume.info().unwrap();
+        assert_eq!((info.layout, info.slots, info.log, info.log_used), (u64::from(layout), 0, log_blocks(8), 2));
+    }
 }
 
 #[test]
