@@ -75,8 +75,9 @@ enum famsync_code {
                               (see famsync_msync and the option `trust`). */
     FAMSYNC_FORKED = -11,  /* a forked process used its copy of the handle */
     FAMSYNC_TORN = -12,    /* Plain memory was closed after a failed famsync_msync (see
-                              famsync_memory_close), or a rollback failed halfway. Call
-                              famsync_rollback before the next commit. */
+                              famsync_memory_close), a rollback failed halfway, or a thread ended
+                              within a group (see famsync_begin). Call famsync_rollback before the
+                              next commit. */
 
     /* why a volume isn't opened */
     FAMSYNC_NOTREGULAR = -13, /* the path names a folder, a device, a pipe or a socket */
@@ -102,7 +103,9 @@ enum famsync_code {
                               stored to plain memory during the commit (only with
                               FAMSYNC_TRACK_KERNEL). From famsync_open and famsync_rollback, in
                               layouts 5 and 6: no number is left for another opening (a volume
-                              allows at most 2^64 - 1 openings). */
+                              allows at most 2^64 - 1 openings). From famsync_msync and
+                              famsync_rollback: this thread holds a group (see famsync_begin). From
+                              famsync_close: a group is open. */
 
     /* the suspect flag (see famsync_msync), and sessions that only read */
     FAMSYNC_UNMARKED = -39,     /* a sync failed, and the library couldn't make the suspect flag
@@ -229,8 +232,8 @@ int famsync_format(const char *volume, const struct famsync_plan *plan);
    - FAMSYNC_NEEDSOPENING: some committed pages aren't in their places yet, or the volume is flagged
      as suspect. Open the volume once without `readonly`, and close it. If the volume is flagged,
      this opening needs `trust`.
-   - famsync_write, famsync_setlength, famsync_msync, famsync_rollback and famsync_memory_touch
-     return FAMSYNC_READONLY.
+   - famsync_write, famsync_setlength, famsync_msync, famsync_rollback, famsync_begin and
+     famsync_memory_touch return FAMSYNC_READONLY.
    - A store to plain memory raises SIGSEGV, which the library doesn't handle. */
 int famsync_open(const char *volume, const struct famsync_options *options, famsync **handle);
 
@@ -238,6 +241,7 @@ int famsync_open(const char *volume, const struct famsync_options *options, fams
    the handle may be in progress. famsync_close first writes committed pages to their places.
 
    FAMSYNC_ARGUMENT: plain memory of the handle is still open. The session continues.
+   FAMSYNC_BUSY: a group is open (see famsync_begin). The session continues.
    FAMSYNC_DEVICE: a write or a sync failed during the session, or a read failed during this call.
    Even if the call returns FAMSYNC_DEVICE, FAMSYNC_UNMARKED or FAMSYNC_NOMEMORY, the handle is
    freed, and all acknowledged commits are durable. */
@@ -307,8 +311,8 @@ int famsync_write(famsync *handle, unsigned file, uint64_t offset, const void *b
    - After a failed read the session continues, and you may call again.
    - After a failed write or sync the session is over. The session is also over if the library had
      no memory to prepare a write or a sync. In this case errno is ENOMEM.
-   - When the session is over, later calls with the handle, except famsync_close, return
-     FAMSYNC_BROKEN.
+   - When the session is over, later calls with the handle return FAMSYNC_BROKEN, except
+     famsync_close, famsync_begin and famsync_end.
 
    After a failed sync the library flags the volume as suspect. The suspect flag is the file
    VOLUME.suspect beside the volume's file. FAMSYNC_UNMARKED: a sync failed, and the library
@@ -343,6 +347,27 @@ int famsync_msync(famsync *handle, uint64_t *mark);
      undoing changes, some changes may be undone, others not. Then commits fail with FAMSYNC_TORN
      until a rollback succeeds. */
 int famsync_rollback(famsync *handle);
+
+/* famsync_begin begins a group, and famsync_end ends it. A commit contains all changes that the
+   calling thread makes within a group, or none of them. Any number of threads can hold groups at
+   the same time.
+
+   famsync_msync and famsync_rollback take effect at a moment when no group is open. They wait for
+   the open groups. Meanwhile famsync_begin waits until that moment has passed, but not for the
+   commit's writes and syncs. Only with FAMSYNC_TRACK_KERNEL, and during a rollback, it waits until
+   the end of the call. No other call waits for groups. famsync_backup needs none, since it copies
+   only committed changes. A new length is a change like a write.
+
+   - If a thread begins a group within its own group, both are one group. It ends with the last
+     famsync_end. Such a famsync_begin never waits.
+   - FAMSYNC_BUSY, from famsync_msync and famsync_rollback: this thread holds a group. Nothing
+     changes. FAMSYNC_BUSY, from famsync_close: a group is open, of any thread.
+   - FAMSYNC_ARGUMENT, from famsync_end: this thread holds no group.
+   - If a thread ends within a group, commits fail with FAMSYNC_TORN until a rollback succeeds.
+   - Commits wait for groups as for a lock. To prevent deadlocks, all threads have to take groups
+     of several volumes, and locks of the program, in the same order. */
+int famsync_begin(famsync *handle);
+int famsync_end(famsync *handle);
 
 /* Returns the number of the last acknowledged commit of this session, or 0 if there is none. */
 uint64_t famsync_acknowledged(famsync *handle);
@@ -450,8 +475,8 @@ int famsync_backup(famsync *handle, int descriptor);
  * same for all threads, and for all plain memory of the handle. At this moment the library makes
  * all pages read-only again. Then the library copies the pages that were stored to. A store during
  * the copying waits until the copying ends. Stores through a pointer don't wait for the commit's
- * writes and syncs. If several stores must be committed together, make them all while no commit is
- * in progress.
+ * writes and syncs. If several stores must be committed together, make them in a group
+ * (famsync_begin), or while no commit is in progress.
  *
  * For some stores the system doesn't call the library's handler:
  *
@@ -466,8 +491,9 @@ int famsync_backup(famsync *handle, int descriptor);
  *
  * With FAMSYNC_TRACK_KERNEL there is no handler: the kernel tracks stores, including stores by
  * read(2) and similar calls. FAMSYNC_TRACK_KERNEL needs Linux 6.7 or later. Other threads must not
- * store during famsync_msync, famsync_rollback or famsync_setlength. Such a store can make a
- * commit fail, or can be lost:
+ * store during famsync_msync, famsync_rollback or famsync_setlength. A thread that stores only
+ * within groups never stores during the first two calls. Another store can make a commit fail, or
+ * can be lost:
  *
  * - If another thread stores while a commit copies pages, the commit repeats the copying. After
  *   four attempts famsync_msync returns FAMSYNC_BUSY, and nothing is committed.

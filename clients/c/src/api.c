@@ -31,9 +31,12 @@ int enter_unless(famsync *handle, const char *fault)
     atomic_fetch_add(&handle->callers, 1);
     pthread_mutex_lock(&handle->turn);
     handle->cancel = cancel;
-    if (handle->ended == FAMSYNC_OK)
-        return FAMSYNC_OK;
-    return leave(handle, why_over(handle));
+    return stay(handle);
+}
+
+int stay(famsync *handle)
+{
+    return handle->ended == FAMSYNC_OK ? FAMSYNC_OK : leave(handle, why_over(handle));
 }
 
 int leave(famsync *handle, int code)
@@ -233,6 +236,8 @@ static void free_handle(famsync *handle)
     pthread_cond_destroy(&handle->work);
     pthread_cond_destroy(&handle->answered);
     pthread_mutex_destroy(&handle->queue);
+    pthread_cond_destroy(&handle->groups.changed);
+    pthread_mutex_destroy(&handle->groups.lock);
     pthread_mutex_destroy(&handle->turn);
     free(handle);
 }
@@ -265,6 +270,8 @@ static famsync *new_handle(void)
         return NULL;
     pthread_mutex_init(&handle->turn, NULL);
     pthread_mutex_init(&handle->queue, NULL);
+    pthread_mutex_init(&handle->groups.lock, NULL);
+    begin_condition(&handle->groups.changed);
     begin_condition(&handle->answered);
     begin_condition(&handle->work);
     handle->tracker.faults = handle->tracker.pages = -1;
@@ -341,8 +348,8 @@ int famsync_open(const char *volume, const struct famsync_options *given, famsyn
     return answer(NULL, __func__, open_handle(volume, given, opened));
 }
 
-/* Ends a session, unless plain memory is open. What is left of commits is written, so that the next session has nothing
-   to carry out. */
+/* Ends a session, unless plain memory or a group is open. What is left of commits is written, so that the next session
+   has nothing to carry out. */
 static int end_session(famsync *handle)
 {
     bool in_use;
@@ -352,6 +359,8 @@ static int end_session(famsync *handle)
     pthread_mutex_unlock(&handle->turn);
     if (in_use)
         return explain(FAMSYNC_ARGUMENT, "plain memory of the handle is still open");
+    if (has_groups(handle))
+        return explain(FAMSYNC_BUSY, "a group is open");
     end_background(handle);
     code = handle->ended == FAMSYNC_OK ? write_all_out(handle) : handle->ended;
     if (handle->ended != FAMSYNC_OK)

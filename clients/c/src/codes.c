@@ -16,7 +16,7 @@ static const struct {
     {FAMSYNC_INUSE, "the volume is open already"},
     {FAMSYNC_SUSPECT, "the volume is flagged as suspect: an earlier sync failed"},
     {FAMSYNC_FORKED, "the session belongs to the parent process"},
-    {FAMSYNC_TORN, "only part of the changes was prepared or undone: roll back before the next commit"},
+    {FAMSYNC_TORN, "only part of the changes was made, prepared or undone: roll back before the next commit"},
     {FAMSYNC_NOTREGULAR, "the volume isn't a regular file"},
     {FAMSYNC_NAMES, "the volume's file has several names (hard links)"},
     {FAMSYNC_REPLACED, "the volume's file was replaced while it was being opened"},
@@ -29,8 +29,8 @@ static const struct {
     {FAMSYNC_EINVAL, "the bytes or the length are outside the file's range"},
     {FAMSYNC_OVERLAP, "plain memory of the file is already open"},
     {FAMSYNC_NOFILE, "the volume has no such file"},
-    {FAMSYNC_BUSY, "a backup is being made, a thread stored during the commit, or no number is left for a commit or "
-                   "an opening"},
+    {FAMSYNC_BUSY, "a group is open, a backup is being made, a thread stored during the commit, or no number is left "
+                   "for a commit or an opening"},
     {FAMSYNC_UNMARKED, "a sync of the volume failed, and its suspect flag couldn't be made"},
     {FAMSYNC_NEEDSOPENING, "a crash or a failed write or sync left work: open the volume for writing once"},
     {FAMSYNC_READONLY, "the session only reads"},

@@ -98,13 +98,13 @@ static void commit_for_waiters(famsync *handle)
 {
     struct waiter *waiters, *next;
     uint64_t mark = 0;
-    int code = enter(handle, true), error;
+    int code = enter_between_groups(handle), error;
     pthread_mutex_lock(&handle->queue);
     waiters = handle->waiters;
     handle->waiters = NULL;
     pthread_mutex_unlock(&handle->queue);
     if (code == FAMSYNC_OK)
-        code = leave(handle, commit_stores(handle, &mark));
+        code = leave_between_groups(handle, commit_stores(handle, &mark));
     error = errno;
     pthread_mutex_lock(&handle->queue);
     for (struct waiter *waiter = waiters; waiter; waiter = next) {
@@ -142,13 +142,16 @@ static void await_commit(famsync *handle, struct waiter *mine)
 static int commit_now(famsync *handle, uint64_t *mark)
 {
     struct waiter mine = {.failure = own_failure()};
-    int cancel;
+    int cancel, code;
     if (!handle)
         return explain(FAMSYNC_ARGUMENT, "the handle is a null pointer");
     if (is_forked(handle))
         return FAMSYNC_FORKED;
     if (handle->volume.readonly)
         return FAMSYNC_READONLY;
+    code = check_no_group(handle);
+    if (code != FAMSYNC_OK)
+        return code;
     cancel = hold_off_cancel();
     await_commit(handle, &mine);
     allow_cancel(cancel);

@@ -136,6 +136,16 @@ struct waiter {
     uint64_t mark;
 };
 
+/* The groups of stores of a session (groups.c). A commit or a rollback holds off new groups with
+   `turn` held. */
+struct groups {
+    atomic_uint state; /* the number of open groups, with two flags */
+    pthread_mutex_t lock;
+    pthread_cond_t changed; /* groups may begin again, or nobody needs to wait for groups */
+    unsigned waiting;       /* the number of groups that are held off; `lock` */
+    uint64_t moments;       /* how often groups that were held off could begin; `lock` */
+};
+
 struct famsync {
     pthread_mutex_t turn; /* its holder may call the core. `turn` guards each field that names no
                              other lock */
@@ -149,8 +159,8 @@ struct famsync {
     int ended;     /* FAMSYNC_DEVICE or FAMSYNC_UNMARKED once a write or a sync has failed */
     int error;     /* errno of that failure */
     bool reported; /* a call has returned that failure */
-    bool torn;     /* plain memory was closed after a failed msync, or a rollback failed halfway: a
-                      rollback has to come first */
+    bool torn;     /* plain memory was closed after a failed msync, a rollback failed halfway, or a
+                      thread ended within a group: a rollback has to come first */
     unsigned files;
     struct file file[MOST_FILES];
     unsigned frames;
@@ -191,6 +201,7 @@ struct famsync {
     pthread_cond_t answered;
     struct waiter *waiters;
     bool committing;
+    struct groups groups;
     /* the background thread */
     pthread_t thread;
     pthread_cond_t work;
@@ -255,6 +266,8 @@ static inline int enter(famsync *handle, bool has_arguments)
     return enter_unless(handle, has_arguments ? NULL : famsync_strerror(FAMSYNC_ARGUMENT));
 }
 int leave(famsync *handle, int code);
+/* For a caller that has the turn: leaves if the session is over, and returns why it is. */
+int stay(famsync *handle);
 /* The number of the file with this name; the number of files if there is none. */
 unsigned number_of(const famsync *handle, const char *name);
 /* Begins a core, and opens the volume of a handle in this core. The first time, it also copies the
@@ -378,6 +391,17 @@ void save_for_backup(famsync *handle);
 
 /* heap.c: the number of bytes of memory that the cores of all sessions of this process use. */
 uint64_t memory_in_use(void);
+
+/* groups.c: `enter_between_groups` enters when no group is open, and holds off new groups until
+   `resume_groups`, or until `leave_between_groups`. If a thread has ended within a group, the
+   session is `torn` then. */
+int enter_between_groups(famsync *handle);
+void resume_groups(famsync *handle);
+int leave_between_groups(famsync *handle, int code);
+/* Whether a group is open. */
+bool has_groups(famsync *handle);
+/* FAMSYNC_BUSY: this thread holds a group. */
+int check_no_group(famsync *handle);
 
 /* commit.c: notes that nothing in the core waits for a commit any more. */
 void forget_staged(famsync *handle);

@@ -197,8 +197,10 @@ static int roll_back(famsync *handle)
 
 int famsync_rollback(famsync *handle)
 {
-    int code = enter(handle, true);
+    int code = check_no_group(handle);
     if (code == FAMSYNC_OK)
-        code = leave(handle, roll_back(handle));
+        code = enter_between_groups(handle);
+    if (code == FAMSYNC_OK)
+        code = leave_between_groups(handle, roll_back(handle));
     return answer(handle, __func__, code);
 }

@@ -356,6 +356,8 @@ static int take_pages(famsync *handle)
 int take_stores(famsync *handle)
 {
     int code = take_pages(handle);
+    if (code == FAMSYNC_OK && !handle->is_tracked) /* stores that the kernel tracks wait for the commit's end */
+        resume_groups(handle);
     for (famsync_memory *memory = handle->memories; memory && code == FAMSYNC_OK; memory = memory->next_one)
         code = for_runs(memory, memory->taken, memory->takes, store_run);
     return code;

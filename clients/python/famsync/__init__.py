@@ -47,6 +47,7 @@ from ._errors import (
     Tracking,
     Unmarked,
 )
+from ._group import Group
 from ._library import version
 from ._memory import Memory
 from ._volume import Info, Path, Stat, Volume
@@ -64,6 +65,7 @@ __all__ = [
     "Error",
     "Exists",
     "Forked",
+    "Group",
     "InUse",
     "Info",
     "Invalid",

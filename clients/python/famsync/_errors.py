@@ -69,7 +69,8 @@ class Forked(Error):
 
 
 class Torn(Error):
-    """Plain memory was closed after a failed commit, or a rollback failed halfway. Roll back before the next commit."""
+    """Plain memory was closed after a failed commit, a rollback failed halfway, or a thread ended within a group. Roll
+    back before the next commit."""
 
     code = -12
 
@@ -153,6 +154,8 @@ class Busy(Error):
     - `set_length`: plain memory of the file is open.
     - `backup`: another backup is being made.
     - `commit`: with kernel tracking, a thread stored during the commit. Or the session has made 2^32 - 1 commits.
+    - `commit`, `rollback`: this thread is in the block of a group.
+    - `close`: a thread is in the block of a group.
     """
 
     code = -35

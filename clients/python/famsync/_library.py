@@ -101,6 +101,8 @@ CALLS = {
     "famsync_write": (c_int, c_void_p, c_uint, c_uint64, c_char_p, c_size_t, POINTER(c_size_t)),
     "famsync_msync": (c_int, c_void_p, POINTER(c_uint64)),
     "famsync_rollback": (c_int, c_void_p),
+    "famsync_begin": (c_int, c_void_p),
+    "famsync_end": (c_int, c_void_p),
     "famsync_acknowledged": (c_uint64, c_void_p),
     "famsync_strerror": (c_char_p, c_int),
     "famsync_error": (c_char_p, c_void_p),

@@ -12,6 +12,7 @@ from typing import Any, Dict, Iterator, List, NamedTuple, NoReturn, Optional, Tu
 
 from . import _library
 from ._errors import Argument, Broken, Busy, Error, NoFile, Overlap, check
+from ._group import Group
 from ._library import Options, library
 from ._memory import Lent, Memory, open_memory
 from ._session import Once, Session
@@ -155,6 +156,7 @@ class Volume:
         self._memories: List[weakref.ref[Memory]] = []  # a list can be copied while other threads change it
         self._lent: List[Tuple[Once, weakref.ref[Lent]]] = []
         self._lengths: Dict[str, List[int]] = {}
+        self._groups: Dict[object, int] = {}  # for each open group the code of famsync_begin
         self.path = path
         said = ctypes.create_string_buffer(MESSAGE)
         options = _options(
@@ -399,16 +401,32 @@ class Volume:
                 self.rollback()
             raise
 
+    def group(self) -> Group:
+        """Returns a group for a `with` block. Each commit has all changes that this thread makes in the block, or none
+        of them. Any number of threads can be in such blocks. `commit` and `rollback` wait until all of them have left
+        their blocks, and meanwhile no other block begins. In the block, the same thread's `commit` and `rollback` raise
+        Busy. If the block raises an exception, the changes made so far still wait for a commit.
+
+            with volume.group():
+                bank[0:8] = (93).to_bytes(8, "little")
+                bank[8:16] = (7).to_bytes(8, "little")
+
+        If a thread ends within a block, commits raise Torn until a rollback."""
+        return self._session.call(Group, self, self._session, self._groups)
+
     def close(self) -> None:
         """Ends the session, and closes its plain memory. Changes since the last commit are lost. Waits for the calls of
         other threads. In a forked process it does nothing.
 
-        Raises BufferError if somebody has a buffer of plain memory; the volume then stays open. Raises Device if a
+        Raises BufferError if somebody has a buffer of plain memory, and Busy if a thread is in the block of a group;
+        the volume then stays open. Raises Device if a
         write or a sync failed; the volume is then closed, and all acknowledged commits are durable. Raises RuntimeError
         within a call with this volume, for instance in a signal handler."""
         check(self._session.end(self._close_memories))
 
     def _close_memories(self) -> None:
+        if 0 in self._groups.values():
+            raise Busy("a group is open")
         for memory in self._opened_memories():
             memory.close()
         self._take_back()

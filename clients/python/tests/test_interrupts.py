@@ -109,6 +109,13 @@ class Interrupts(InAFolder):
     def test_a_commit(self):
         self.at_steps(self.begin, lambda held: held["volume"].commit(), self.closes)
 
+    def test_a_group(self):
+        def change(held):
+            with held["volume"].group():
+                held["memory"][0] = 1
+
+        self.at_steps(self.begin, change, self.closes, stride=1)
+
 
 if __name__ == "__main__":
     unittest.main()

@@ -49,7 +49,7 @@ codes! {
     Suspect = -7,
     /// The volume was opened by the process from which this one was forked.
     Forked = -11,
-    /// Only a part of the changes was taken or undone: nothing can be committed before a rollback.
+    /// Only a part of the changes was made, taken or undone: nothing can be committed before a rollback.
     Torn = -12,
     /// The path names no regular file, but a folder, a device, a pipe or a socket.
     NotRegular = -13,
@@ -76,8 +76,8 @@ codes! {
     /// The volume has no such file.
     NoFile = -34,
     /// Memory of the file is open; a backup is being made; a thread stored during a commit, with
-    /// [`kernel_tracking`](crate::Options::kernel_tracking); the session has made 2^32 - 1 commits; or,
-    /// in layouts 5 and 6, no number is left for another opening.
+    /// [`kernel_tracking`](crate::Options::kernel_tracking); this thread holds a [`Group`](crate::Group); the session
+    /// has made 2^32 - 1 commits; or, in layouts 5 and 6, no number is left for another opening.
     Busy = -35,
     /// A sync failed, and the volume's suspect flag couldn't be made; [`Error::system`] has the cause of the sync's
     /// failure.

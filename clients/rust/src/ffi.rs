@@ -114,6 +114,8 @@ extern "C" {
     ) -> c_int;
     pub fn famsync_msync(handle: *mut Famsync, mark: *mut u64) -> c_int;
     pub fn famsync_rollback(handle: *mut Famsync) -> c_int;
+    pub fn famsync_begin(handle: *mut Famsync) -> c_int;
+    pub fn famsync_end(handle: *mut Famsync) -> c_int;
     pub fn famsync_acknowledged(handle: *mut Famsync) -> u64;
     pub fn famsync_strerror(code: c_int) -> *const c_char;
     pub fn famsync_error(handle: *const Famsync) -> *const c_char;

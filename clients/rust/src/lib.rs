@@ -24,12 +24,14 @@
 
 mod error;
 mod ffi;
+mod group;
 mod memory;
 mod options;
 mod plan;
 mod volume;
 
 pub use error::{Code, Error};
+pub use group::Group;
 pub use options::Options;
 pub use plan::Plan;
 pub use volume::{File, Info, Stat, Volume};

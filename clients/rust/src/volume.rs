@@ -1,4 +1,5 @@
 use crate::error::{check, Code, Error};
+use crate::group::Group;
 use crate::memory::{Plain, Slot};
 use crate::{ffi, Options, Plan};
 use std::array;
@@ -198,6 +199,39 @@ impl Volume {
         }
     }
 
+    /// Begins a group of this thread, which ends when it is dropped. Each commit has all changes that the thread makes
+    /// meanwhile, or none of them. Any number of threads can hold groups. A commit of another thread waits until no
+    /// group is open, and groups that would begin meanwhile wait for it.
+    ///
+    /// The thread that holds a group can't commit: that returns [`Code::Busy`] at once. A group within a group of the
+    /// same thread is a part of it. If the thread panics, the changes made so far still wait for a commit.
+    /// [`Code::Torn`] from commits: a thread ended within a group that it had leaked.
+    ///
+    /// To prevent deadlocks, take groups of several volumes, and locks, in the same order in all threads.
+    ///
+    /// ```
+    /// # include!(concat!(env!("CARGO_MANIFEST_DIR"), "/tests/volumes/mod.rs"));
+    /// # use std::sync::atomic::Ordering;
+    /// # fn main() -> Result<(), famsync::Error> {
+    /// # let made = make_volume(1, 16, "bank=8192");
+    /// # let volume = famsync::Volume::open(made.path())?;
+    /// let bank = volume.words("bank")?;
+    /// std::thread::scope(|scope| {
+    ///     scope.spawn(|| -> Result<(), famsync::Error> {
+    ///         let _group = volume.group()?;
+    ///         bank[3].fetch_sub(7, Ordering::Release);
+    ///         bank[900].fetch_add(7, Ordering::Release);
+    ///         Ok(())
+    ///     });
+    ///     scope.spawn(|| volume.commit()); // both or neither
+    /// });
+    /// # Ok(())
+    /// # }
+    /// ```
+    pub fn group(&self) -> Result<Group<'_>, Error> {
+        Group::begin(&self.session)
+    }
+
     /// The number of the last acknowledged commit; 0 if there is none.
     pub fn acknowledged(&self) -> u64 {
         // Safety: the session is open.
@@ -380,8 +414,8 @@ impl Volume {
     ///
     /// There is one moment within [`commit`](Volume::commit), and the commit has exactly the stores before it, by all
     /// threads, to all words of the volume. Stores by `Ordering::Release` keep the order in which a thread makes them.
-    /// A commit may separate several stores that belong together. To prevent that, keep the volume in an `RwLock` and
-    /// use [`memory_mut`](Volume::memory_mut).
+    /// A commit may separate several stores that belong together. To prevent that, make them in a
+    /// [`group`](Volume::group), or keep the volume in an `RwLock` and use [`memory_mut`](Volume::memory_mut).
     ///
     /// ```
     /// # include!(concat!(env!("CARGO_MANIFEST_DIR"), "/tests/volumes/mod.rs"));

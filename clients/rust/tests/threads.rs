@@ -3,12 +3,14 @@
 
 mod volumes;
 
-use famsync::Volume;
+use famsync::{Code, Volume};
 use std::fs::{File, OpenOptions};
+use std::mem;
 use std::os::unix::fs::FileExt;
 use std::sync::atomic::{AtomicBool, AtomicU64, Ordering};
 use std::sync::RwLock;
 use std::thread;
+use std::time::Duration;
 use volumes::make_volume;
 
 const THREADS: usize = 4;
@@ -177,4 +179,79 @@ fn a_volume_goes_to_another_thread() {
     let volume = thread::spawn(move || volume.commit().map(|_| volume)).join().unwrap().unwrap();
     thread::spawn(move || volume.close()).join().unwrap().unwrap();
     assert_eq!(Volume::open(made.path()).unwrap().memory("a").unwrap()[0], 1);
+}
+
+/// Transfers in groups, each to a word of another page, while others commit: the sum of all words is always 0.
+#[test]
+fn groups_are_committed_whole() {
+    const WORDS: usize = 4096;
+    let made = make_volume(4, 32, "a=32768");
+    let volume = Volume::open(made.path()).unwrap();
+    let (words, stopped) = (volume.words("a").unwrap(), &AtomicBool::new(false));
+    thread::scope(|scope| {
+        let stop = Stop(stopped);
+        for thread in 1..THREADS {
+            let volume = &volume;
+            scope.spawn(move || {
+                for number in (thread..).take_while(|_| !stopped.load(Ordering::Relaxed)) {
+                    let _group = volume.group().unwrap();
+                    words[number * 513 % WORDS].fetch_sub(7, Ordering::Release);
+                    words[(number * 517 + 9) % WORDS].fetch_add(7, Ordering::Release);
+                }
+            });
+        }
+        for round in 0..40 {
+            volume.commit().unwrap();
+            let path = made.beside(&format!("{round}.img"));
+            volume.backup(OpenOptions::new().read(true).write(true).create_new(true).open(&path).unwrap()).unwrap();
+            let copy = Volume::open(path).unwrap();
+            let sum = copy
+                .words("a")
+                .unwrap()
+                .iter()
+                .fold(0, |sum: u64, word| sum.wrapping_add(word.load(Ordering::Relaxed)));
+            assert_eq!(sum, 0, "round {round}");
+        }
+        drop(stop);
+    });
+}
+
+#[test]
+fn a_thread_with_a_group_cant_commit() {
+    let made = make_volume(4, 32, "a=32768");
+    let volume = Volume::open(made.path()).unwrap();
+    let words = volume.words("a").unwrap();
+    let group = volume.group().unwrap();
+    words[0].store(1, Ordering::Release);
+    assert_eq!(volume.commit().unwrap_err().code(), Code::Busy);
+    drop(volume.group().unwrap());
+    assert_eq!(volume.commit().unwrap_err().code(), Code::Busy);
+    thread::scope(|scope| {
+        let committed = scope.spawn(|| volume.commit().unwrap());
+        thread::sleep(Duration::from_millis(30));
+        assert!(!committed.is_finished() && volume.acknowledged() == 0);
+        drop(group);
+        assert_eq!(committed.join().unwrap(), 1);
+    });
+    assert_eq!(volume.commit().unwrap(), 2);
+}
+
+#[test]
+fn a_group_that_is_leaked() {
+    let made = make_volume(4, 32, "a=32768");
+    let mut volume = Volume::open(made.path()).unwrap();
+    thread::scope(|scope| {
+        scope.spawn(|| {
+            volume.words("a").unwrap()[0].store(1, Ordering::Release);
+            mem::forget(volume.group().unwrap());
+            assert_eq!(volume.commit().unwrap_err().code(), Code::Busy);
+        });
+    });
+    assert_eq!(volume.commit().unwrap_err().code(), Code::Torn);
+    volume.rollback().unwrap();
+    assert_eq!(volume.commit().unwrap(), 1);
+    assert_eq!(volume.words("a").unwrap()[0].load(Ordering::Relaxed), 0);
+    mem::forget(volume.group().unwrap());
+    assert_eq!(volume.rollback().unwrap_err().code(), Code::Busy);
+    assert_eq!(volume.close().unwrap_err().code(), Code::Busy);
 }
