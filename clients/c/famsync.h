@@ -116,7 +116,9 @@ enum famsync_code {
 
     /* plain memory */
     FAMSYNC_ADDRESS = -42, /* plain memory can't be at the given address */
-    FAMSYNC_TRACKING = -44 /* the system can't track stores in the requested way */
+    FAMSYNC_TRACKING = -44, /* the system can't track stores in the requested way */
+
+    FAMSYNC_TRANSACTION = -45 /* a transaction is open (see famsync_transaction_begin) */
 };
 
 typedef struct famsync famsync;
@@ -232,8 +234,8 @@ int famsync_format(const char *volume, const struct famsync_plan *plan);
    - FAMSYNC_NEEDSOPENING: some committed pages aren't in their places yet, or the volume is flagged
      as suspect. Open the volume once without `readonly`, and close it. If the volume is flagged,
      this opening needs `trust`.
-   - famsync_write, famsync_setlength, famsync_msync, famsync_rollback, famsync_begin and
-     famsync_memory_touch return FAMSYNC_READONLY.
+   - famsync_write, famsync_setlength, famsync_msync, famsync_rollback, famsync_begin,
+     famsync_memory_touch and the calls for transactions return FAMSYNC_READONLY.
    - A store to plain memory raises SIGSEGV, which the library doesn't handle. */
 int famsync_open(const char *volume, const struct famsync_options *options, famsync **handle);
 
@@ -368,6 +370,27 @@ int famsync_rollback(famsync *handle);
      of several volumes, and locks of the program, in the same order. */
 int famsync_begin(famsync *handle);
 int famsync_end(famsync *handle);
+
+/* A transaction: all changes of the session up to famsync_transaction_commit become durable, or
+   none. These are the changes of all threads, and the changes that waited when the transaction
+   began. `*transaction` is set to the transaction's number. A session has at most one open
+   transaction. While it is open, famsync_msync, famsync_rollback and famsync_transaction_begin
+   fail with FAMSYNC_TRANSACTION, in any thread.
+
+   famsync_transaction_commit works like famsync_msync, and famsync_transaction_rollback like
+   famsync_rollback. If one of them succeeds, the transaction ends. If it fails, the transaction
+   stays open, so no part of it is committed.
+
+   After famsync_transaction_rollback the transaction's number may be used again:
+
+   - famsync_transaction_commit returns FAMSYNC_OK if no change waits for a commit. Otherwise it
+     fails with FAMSYNC_TORN, and commits nothing.
+   - famsync_transaction_rollback undoes all changes, like famsync_rollback.
+
+   FAMSYNC_ARGUMENT: no transaction had this number. */
+int famsync_transaction_begin(famsync *handle, uint64_t *transaction);
+int famsync_transaction_commit(famsync *handle, uint64_t transaction, uint64_t *mark);
+int famsync_transaction_rollback(famsync *handle, uint64_t transaction);
 
 /* Returns the number of the last acknowledged commit of this session, or 0 if there is none. */
 uint64_t famsync_acknowledged(famsync *handle);

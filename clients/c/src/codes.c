@@ -36,6 +36,7 @@ static const struct {
     {FAMSYNC_READONLY, "the session only reads"},
     {FAMSYNC_ADDRESS, "plain memory can't be at this address"},
     {FAMSYNC_TRACKING, "the system can't track stores to plain memory in the requested way"},
+    {FAMSYNC_TRANSACTION, "a transaction is open: it has to be committed or rolled back first"},
 };
 
 const char *famsync_strerror(int code)

@@ -77,8 +77,7 @@ static int commit(famsync *handle, uint64_t *mark)
     return FAMSYNC_OK;
 }
 
-/* Takes all stores to plain memory, and commits all stores; the caller has its turn. */
-static int commit_stores(famsync *handle, uint64_t *mark)
+int commit_stores(famsync *handle, uint64_t *mark)
 {
     int code;
     if (handle->torn)
@@ -104,7 +103,8 @@ static void commit_for_waiters(famsync *handle)
     handle->waiters = NULL;
     pthread_mutex_unlock(&handle->queue);
     if (code == FAMSYNC_OK)
-        code = leave_between_groups(handle, commit_stores(handle, &mark));
+        code = leave_between_groups(handle,
+                                    handle->transaction > 0 ? FAMSYNC_TRANSACTION : commit_stores(handle, &mark));
     error = errno;
     pthread_mutex_lock(&handle->queue);
     for (struct waiter *waiter = waiters; waiter; waiter = next) {

@@ -186,6 +186,8 @@ struct famsync {
                           that recorded calls */
     bool is_tracked;   /* the kernel tracks stores to plain memory, not the handler of SIGSEGV */
     struct tracker tracker;
+    uint64_t transaction;     /* the number of the open transaction; 0 if none is open */
+    uint64_t transactions;    /* the number of transactions that were begun */
     bool fixed;               /* the length of open plain memory never changes */
     bool resident;            /* whole files are read into plain memory, instead of mapping the
                                  volume's file */
@@ -402,6 +404,12 @@ int leave_between_groups(famsync *handle, int code);
 bool has_groups(famsync *handle);
 /* FAMSYNC_BUSY: this thread holds a group. */
 int check_no_group(famsync *handle);
+
+/* commit.c: takes all stores to plain memory, and commits all changes. `*mark` is set to the
+   commit's number. The caller has the turn. */
+int commit_stores(famsync *handle, uint64_t *mark);
+/* rollback.c: undoes all changes since the last commit. The caller has the turn. */
+int roll_back(famsync *handle);
 
 /* commit.c: notes that nothing in the core waits for a commit any more. */
 void forget_staged(famsync *handle);

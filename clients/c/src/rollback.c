@@ -174,7 +174,7 @@ static int end_taking_over(famsync *handle, int code)
     return drained != FAMSYNC_OK ? drained : code;
 }
 
-static int roll_back(famsync *handle)
+int roll_back(famsync *handle)
 {
     struct other other = {.core = {NULL}};
     sigset_t blocked;
@@ -201,6 +201,6 @@ int famsync_rollback(famsync *handle)
     if (code == FAMSYNC_OK)
         code = enter_between_groups(handle);
     if (code == FAMSYNC_OK)
-        code = leave_between_groups(handle, roll_back(handle));
+        code = leave_between_groups(handle, handle->transaction > 0 ? FAMSYNC_TRANSACTION : roll_back(handle));
     return answer(handle, __func__, code);
 }

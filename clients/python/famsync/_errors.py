@@ -192,6 +192,13 @@ class Tracking(Error):
     code = -44
 
 
+class InTransaction(Error):
+    """A transaction of this session is open, or its rollback failed. Until it ends, `commit`, `transaction` and other
+    threads' `rollback` raise this error."""
+
+    code = -45
+
+
 CLASSES = {kind.code: kind for kind in Error.__subclasses__()}
 
 # System, for numbers for which Python has a class.

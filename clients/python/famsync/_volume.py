@@ -5,17 +5,20 @@ from __future__ import annotations
 import ctypes
 import operator
 import os
+import sys
+import threading
 import weakref
-from contextlib import contextmanager, suppress
+from contextlib import suppress
 from types import TracebackType
-from typing import Any, Dict, Iterator, List, NamedTuple, NoReturn, Optional, Tuple, Type, Union
+from typing import Any, Dict, List, NamedTuple, NoReturn, Optional, Set, Tuple, Type, Union
 
 from . import _library
-from ._errors import Argument, Broken, Busy, Error, NoFile, Overlap, check
+from ._errors import Argument, Busy, Error, NoFile, Overlap, check
 from ._group import Group
 from ._library import Options, library
 from ._memory import Lent, Memory, open_memory
 from ._session import Once, Session
+from ._transaction import Transaction
 
 # FAMSYNC_MESSAGE_SIZE of famsync.h.
 MESSAGE = 9000
@@ -157,6 +160,8 @@ class Volume:
         self._lent: List[Tuple[Once, weakref.ref[Lent]]] = []
         self._lengths: Dict[str, List[int]] = {}
         self._groups: Dict[object, int] = {}  # for each open group the code of famsync_begin
+        self._transactions: Dict[int, ctypes.c_uint64] = {}  # for each thread the number of its last transaction
+        self._left: Set[int] = set()  # the numbers of transactions whose blocks have ended without a commit
         self.path = path
         said = ctypes.create_string_buffer(MESSAGE)
         options = _options(
@@ -360,21 +365,46 @@ class Volume:
         until a rollback succeeds. After Device the session may be over.
 
         If a file's length was set since the last commit, its memory is closed first. Raises BufferError if somebody has
-        a buffer of this memory."""
-        lengths, code = self._rolled_back()
+        a buffer of this memory.
+
+        In the block of a transaction it ends the transaction. If other changes follow in the block, the block's end
+        undoes them, and raises Torn. Raises InTransaction if a transaction of another thread is open."""
+        self._undo(self._number_to_undo())
+
+    def _number_of_thread(self) -> ctypes.c_uint64:
+        """Returns the number of this thread's last transaction; 0 if it had none."""
+        return self._transactions.setdefault(threading.get_ident(), ctypes.c_uint64())
+
+    def _number_to_undo(self) -> int:
+        """Returns the number of the transaction that `rollback` may end, if one is open: one of this thread, of a
+        thread that has ended, or one whose block has ended. Numbers increase, and only the last one can be open."""
+        others = sys._current_frames().keys() - {threading.get_ident()}
+        numbers = [number.value for thread, number in list(self._transactions.items()) if thread not in others]
+        return max(numbers + list(self._left), default=0)
+
+    def _undo_left(self, number: int) -> None:
+        """Rolls back a transaction whose block has ended. If this fails, any thread may roll it back."""
+        self._left.add(number)
+        self._undo(number)
+        self._left.discard(number)
+
+    def _undo(self, number: int) -> None:
+        lengths, code = self._rolled_back(number)
         while code == Overlap.code and lengths:  # another thread has opened memory again meanwhile
-            lengths, code = self._rolled_back()
+            lengths, code = self._rolled_back(number)
         check(code)
         for name, length in lengths.items():
             if self._lengths.get(name) is length:
                 self._lengths.pop(name, None)
 
-    def _rolled_back(self) -> Tuple[Dict[str, List[int]], int]:
+    def _rolled_back(self, number: int) -> Tuple[Dict[str, List[int]], int]:
         """Returns the lengths that were set before a rollback, and the rollback's code."""
         lengths = dict(self._lengths)
         for name in filter(self._may_change_length, lengths):
             self._close_memory_of(name)
-        return lengths, self._session.call(library.famsync_rollback)
+        if number == 0:
+            return lengths, self._session.call(library.famsync_rollback)
+        return lengths, self._session.call(library.famsync_transaction_rollback, number)
 
     def _close_memory_of(self, name: str) -> None:
         closings = self._closings_of(name)
@@ -384,22 +414,23 @@ class Volume:
             # of a Memory that was dropped there is a view
             raise BufferError(f"the length of {name!r} can't be undone while somebody has a buffer of its memory")
 
-    @contextmanager
-    def transaction(self) -> Iterator[None]:
-        """Commits at the end of the `with` block. If the block raises an exception, or the commit fails, all changes
-        are rolled back, and the exception is raised again. If the session is over, there is nothing to roll back.
+    def transaction(self) -> Transaction:
+        """Returns a transaction for a `with` block. The end of the block commits. If the block raises an exception, or
+        the commit fails, all changes are rolled back, and the exception is raised again. If the session is over, there
+        is nothing to roll back.
 
             with volume.transaction():
                 bank[0:8] = (93).to_bytes(8, "little")
                 bank[8:16] = (7).to_bytes(8, "little")
-        """
-        try:
-            yield
-            self.commit()
-        except BaseException:
-            with suppress(Broken):  # a write or a sync failed, so the session is over
-                self.rollback()
-            raise
+
+        A session has at most one open transaction: until it ends, `transaction` and `commit` raise InTransaction, in
+        each thread. All changes of the session belong to it, also those of other threads, and those that waited for a
+        commit when it began. If it can't be rolled back, or an interrupt (Ctrl-C) comes just before or after the block,
+        it stays open until a `rollback` succeeds."""
+        return self._session.call(self._new_transaction)
+
+    def _new_transaction(self, handle: ctypes.c_void_p) -> Transaction:
+        return Transaction(self)
 
     def group(self) -> Group:
         """Returns a group for a `with` block. Each commit has all changes that this thread makes in the block, or none

@@ -239,10 +239,8 @@ class InASession(InAFolder):
 
     def test_a_transaction_in_which_a_write_fails(self):
         volume = self.opened()
-        with self.assertRaises(famsync.Device) as caught, volume.transaction():
+        with self.assertRaises(famsync.Device) as caught, limited(resource.RLIMIT_FSIZE, PAGE), volume.transaction():
             volume.write("a", 0, b"first")
-            with limited(resource.RLIMIT_FSIZE, PAGE):
-                volume.commit()
         self.assertEqual(caught.exception.errno, errno.EFBIG)
         self.assertRaises(famsync.Broken, volume.read, "a")
         self.assertRaises(famsync.Device, volume.close)

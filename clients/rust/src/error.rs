@@ -90,6 +90,9 @@ codes! {
     Address = -42,
     /// The system can't track stores to plain memory in the requested way.
     Tracking = -44,
+    /// A [`transaction`](crate::Volume::transaction) is open, or its rollback failed: nothing else can be committed
+    /// before a rollback.
+    Transaction = -45,
 }
 
 impl Code {

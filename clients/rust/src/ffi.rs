@@ -116,6 +116,9 @@ extern "C" {
     pub fn famsync_rollback(handle: *mut Famsync) -> c_int;
     pub fn famsync_begin(handle: *mut Famsync) -> c_int;
     pub fn famsync_end(handle: *mut Famsync) -> c_int;
+    pub fn famsync_transaction_begin(handle: *mut Famsync, transaction: *mut u64) -> c_int;
+    pub fn famsync_transaction_commit(handle: *mut Famsync, transaction: u64, mark: *mut u64) -> c_int;
+    pub fn famsync_transaction_rollback(handle: *mut Famsync, transaction: u64) -> c_int;
     pub fn famsync_acknowledged(handle: *mut Famsync) -> u64;
     pub fn famsync_strerror(code: c_int) -> *const c_char;
     pub fn famsync_error(handle: *const Famsync) -> *const c_char;

@@ -8,8 +8,8 @@ use std::mem::{self, ManuallyDrop};
 use std::ops::{Bound, RangeBounds};
 use std::os::fd::{AsFd, AsRawFd};
 use std::path::Path;
-use std::ptr::NonNull;
-use std::sync::atomic::AtomicU64;
+use std::ptr::{self, NonNull};
+use std::sync::atomic::{AtomicU64, Ordering};
 use std::sync::{Mutex, MutexGuard, PoisonError};
 use std::{fmt, process};
 
@@ -59,6 +59,9 @@ impl Drop for Session {
     }
 }
 
+/// How many volumes the process has opened.
+static SERIALS: AtomicU64 = AtomicU64::new(0);
+
 /// A file of a volume.
 #[derive(Clone, Copy, Debug, PartialEq, Eq)]
 #[non_exhaustive]
@@ -89,6 +92,10 @@ pub struct Volume {
     opening: Mutex<()>,
     /// Whether the session only reads.
     readonly: bool,
+    /// The number of the open transaction; 0 if none is open.
+    transaction: u64,
+    /// The number of this volume among those that the process has opened.
+    serial: u64,
     /// The number of the process that opened it.
     process: u32,
 }
@@ -109,7 +116,8 @@ impl Volume {
     pub(crate) fn of(handle: NonNull<ffi::Famsync>, readonly: bool) -> Volume {
         let session = Session(handle);
         let slots = (0..session.files()).map(|file| Slot::new(session.file_name(file).into())).collect();
-        Volume { slots, session, opening: Mutex::new(()), readonly, process: process::id() }
+        let serial = SERIALS.fetch_add(1, Ordering::Relaxed);
+        Volume { slots, session, opening: Mutex::new(()), readonly, transaction: 0, serial, process: process::id() }
     }
 
     /// Ends the session, as dropping it does, and returns whether that succeeded. Changes since the last commit are
@@ -163,15 +171,31 @@ impl Volume {
 
     /// Undoes all changes since the last commit: stores to plain memory, writes and lengths. If it fails, nothing is
     /// undone. After [`Code::System`] a part may be; then commits are refused until a rollback succeeds.
+    ///
+    /// Within a [`transaction`](Volume::transaction) it ends the transaction.
     pub fn rollback(&mut self) -> Result<(), Error> {
+        let handle = self.session.handle();
         // Safety: the session is open, and nobody has a slice of plain memory.
-        let undone = check(unsafe { ffi::famsync_rollback(self.session.handle()) });
+        let undone = check(unsafe {
+            match self.transaction {
+                0 => ffi::famsync_rollback(handle),
+                number => ffi::famsync_transaction_rollback(handle, number),
+            }
+        });
+        if undone.is_ok() {
+            self.transaction = 0;
+        }
         self.slots.iter_mut().filter_map(Slot::plain_mut).for_each(Plain::measure);
         undone
     }
 
     /// Makes changes and commits them. If `change` returns an error or panics, or the commit is refused, all changes
-    /// are rolled back. If the rollback is refused, its error is returned.
+    /// are rolled back, including those that waited before. If the rollback is refused, its error is returned. Then
+    /// commits return [`Code::Transaction`] until a rollback succeeds.
+    ///
+    /// Within `change` a [`commit`](Volume::commit) or another transaction returns [`Code::Transaction`]. A
+    /// [`rollback`](Volume::rollback) ends the transaction. If `change` succeeds after it with further changes, or with
+    /// another volume in the place of this one, they are undone, and [`Code::Torn`] is returned.
     ///
     /// ```
     /// # include!(concat!(env!("CARGO_MANIFEST_DIR"), "/tests/volumes/mod.rs"));
@@ -188,10 +212,14 @@ impl Volume {
     /// # }
     /// ```
     pub fn transaction<T, E: From<Error>>(&mut self, change: impl FnOnce(&mut Volume) -> Result<T, E>) -> Result<T, E> {
+        let (serial, number) = (self.serial, self.begin_transaction()?);
         let mut undo = Undo(Some(self));
-        let changed = change(undo.volume()).and_then(|answer| Ok((answer, undo.volume().commit()?)));
+        let changed = change(undo.volume()).and_then(|answer| {
+            undo.volume().commit_transaction(serial, number)?;
+            Ok(answer)
+        });
         match changed {
-            Ok((answer, _)) => {
+            Ok(answer) => {
                 undo.0 = None;
                 Ok(answer)
             }
@@ -230,6 +258,24 @@ impl Volume {
     /// ```
     pub fn group(&self) -> Result<Group<'_>, Error> {
         Group::begin(&self.session)
+    }
+
+    fn begin_transaction(&mut self) -> Result<u64, Error> {
+        // Safety: the session is open.
+        check(unsafe { ffi::famsync_transaction_begin(self.session.handle(), &mut self.transaction) })?;
+        Ok(self.transaction)
+    }
+
+    /// Commits the transaction with this number, which the volume with this serial number began.
+    fn commit_transaction(&mut self, serial: u64, number: u64) -> Result<(), Error> {
+        if serial != self.serial {
+            let message = "the volume was exchanged for another one within its transaction".into();
+            return Err(Error::with_message(Code::Torn, message));
+        }
+        // Safety: the session is open, and nobody has a slice of plain memory.
+        check(unsafe { ffi::famsync_transaction_commit(self.session.handle(), number, ptr::null_mut()) })?;
+        self.transaction = 0;
+        Ok(())
     }
 
     /// The number of the last acknowledged commit; 0 if there is none.
