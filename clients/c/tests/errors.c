@@ -1,13 +1,14 @@
 /* Why a call failed, in words: which argument was wrong, which file, and how many pages; to the thread that called. */
 #include "test.h"
 
+#include <stdatomic.h>
+#include <sys/uio.h>
+
 #define SLOTS 8u
 #define FRAMES "7" /* how many pages a commit has in layout 4, whose lengths take a slot */
 
-#include <sys/uio.h>
-
 /* Whether reads and writes of a volume fail. */
-static bool reads_fail, writes_fail;
+static atomic_bool reads_fail, writes_fail;
 
 ssize_t pread(int file, void *bytes, size_t count, off_t offset)
 {

@@ -260,7 +260,7 @@ static void opened_over_writes(void)
 }
 
 /* Nothing of the volume can be read. */
-static bool unreadable;
+static atomic_bool unreadable;
 
 ssize_t pread(int file, void *bytes, size_t count, off_t offset)
 {

@@ -26,6 +26,7 @@ class Pages(InAFolder):
         self.assertEqual(self.prints(f"{PACKAGE}/README.md"), ["", "1 page of 1020\n", "b'hello' 1\n"])
 
     def test_start(self):
+        os.rename("bank.vol", "python.vol")
         numbers = (93).to_bytes(8, "little") + (7).to_bytes(8, "little")
         self.assertEqual(self.prints(f"{TOP}/docs/START.md"), [f"1 {numbers!r}\n"])
 
