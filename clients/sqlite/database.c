@@ -47,6 +47,13 @@ static void drop_waiting(struct database *database)
         database->waits[database->order[--database->waiting]] = NULL;
 }
 
+/* A transaction has ended. What it wrote and didn't commit is no part of the database. */
+static void end_transaction(struct database *database)
+{
+    drop_waiting(database);
+    database->size = database->kept;
+}
+
 static int close_database(sqlite3_file *file)
 {
     struct database *database = (struct database *)file;
@@ -81,6 +88,12 @@ static int failed_again(const struct database *database, int code)
 static bool is_head(int count, sqlite3_int64 at)
 {
     return at == 0 && count >= HEAD;
+}
+
+/* SQLite reads these 16 bytes before a transaction, if the last one didn't leave it a cache that it trusts. */
+static bool is_before_a_transaction(int count, sqlite3_int64 at)
+{
+    return at == CHANGES && count == 16;
 }
 
 /* Returns whether it said WAL. */
@@ -132,11 +145,15 @@ static int read_parts(const struct database *database, char *bytes, size_t count
 static int read_database(sqlite3_file *file, void *bytes, int count, sqlite3_int64 at)
 {
     struct database *database = (struct database *)file;
-    sqlite3_int64 left = at < database->size ? database->size - at : 0;
-    size_t end = left < count ? (size_t)left : (size_t)count;
+    sqlite3_int64 left;
+    size_t end;
     int code;
     if (database->torn)
         return failed_again(database, SQLITE_IOERR_READ);
+    if (is_before_a_transaction(count, at))
+        end_transaction(database);
+    left = at < database->size ? database->size - at : 0;
+    end = left < count ? (size_t)left : (size_t)count;
     code = read_parts(database, bytes, end, at);
     if (code != FAMSYNC_OK)
         return code_for(code, SQLITE_IOERR_READ);
@@ -312,14 +329,11 @@ static int lock(sqlite3_file *file, int kind)
     return SQLITE_OK;
 }
 
-/* What a transaction wrote and didn't sync is no part of the database once it has ended. */
+/* With locking_mode=EXCLUSIVE SQLite doesn't call this at the end of a transaction (see is_before_a_transaction). */
 static int unlock(sqlite3_file *file, int kind)
 {
-    struct database *database = (struct database *)file;
-    if (kind <= SQLITE_LOCK_SHARED) {
-        drop_waiting(database);
-        database->size = database->kept;
-    }
+    if (kind <= SQLITE_LOCK_SHARED)
+        end_transaction((struct database *)file);
     return SQLITE_OK;
 }
 
@@ -330,34 +344,21 @@ static int is_reserved(sqlite3_file *file, int *found)
     return SQLITE_OK;
 }
 
-/* Whether PRAGMA synchronous has a value by which SQLite syncs: of other words and numbers some are OFF. */
-static bool syncs(const char *value)
+static bool asks_for_wal(const char *name, const char *value)
 {
-    static const char *const values[] = {"1", "2", "3", "on", "yes", "true", "normal", "full", "extra"};
-    for (size_t i = 0; i < sizeof values / sizeof values[0]; i++)
-        if (sqlite3_stricmp(value, values[i]) == 0)
-            return true;
-    return false;
+    return sqlite3_stricmp(name, "journal_mode") == 0 && sqlite3_strnicmp(value, "wal", (int)strlen(value)) == 0;
 }
 
-/* Whether a PRAGMA asks for what the VFS can't serve: WAL needs no word here, since SQLite asks the methods for it. */
-static bool is_refused(const char *name, const char *value)
-{
-    if (sqlite3_stricmp(name, "locking_mode") == 0)
-        return sqlite3_stricmp(value, "exclusive") == 0;
-    if (sqlite3_stricmp(name, "journal_mode") == 0)
-        return sqlite3_stricmp(value, "off") == 0;
-    return sqlite3_stricmp(name, "synchronous") == 0 && !syncs(value);
-}
-
+/* SQLite requests SYNC before it calls xSync, and with synchronous=OFF instead. With locking_mode=EXCLUSIVE it would
+   make a WAL beside the volume. So a PRAGMA that asks for one gets a value that is no mode, and answers the mode. */
 static int control(sqlite3_file *file, int what, void *argument)
 {
     char **words = argument;
-    (void)file;
-    if (what != SQLITE_FCNTL_PRAGMA || !words[2] || !is_refused(words[1], words[2]))
-        return SQLITE_NOTFOUND;
-    words[0] = sqlite3_mprintf("the VFS famsync doesn't offer %s=%s", words[1], words[2]);
-    return SQLITE_ERROR;
+    if (what == SQLITE_FCNTL_SYNC)
+        return sync_database(file, 0);
+    if (what == SQLITE_FCNTL_PRAGMA && words[2] && asks_for_wal(words[1], words[2]))
+        memset(words[2], '?', strlen(words[2]));
+    return SQLITE_NOTFOUND;
 }
 
 static int sector_size(sqlite3_file *file)

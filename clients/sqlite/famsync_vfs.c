@@ -61,6 +61,8 @@ static int open_file(sqlite3_vfs *vfs, const char *path, sqlite3_file *file, int
         return says_volume(path) ? open_database(path, file, flags, found) : open_by_name(path, file, flags, found);
     if (flags & SQLITE_OPEN_MAIN_JOURNAL && is_beside_a_database(path, "-journal"))
         return open_journal(file, flags, found);
+    if (flags & SQLITE_OPEN_WAL && is_beside_a_database(path, "-wal"))
+        return SQLITE_CANTOPEN;
     return usual->xOpen(usual, path, file, flags, found);
 }
 

@@ -219,6 +219,25 @@ static void leaves_files_alone(const char *mode)
     remove_file("-wal");
 }
 
+/* Attached to a database of another VFS, which sets all modes of the connection: then the VFS refuses the WAL's file.
+ */
+static void makes_no_wal(void)
+{
+    sqlite3 *database;
+    char statement[200];
+    make_databases(LAYOUTS, "DELETE");
+    WANT(open_database(":memory:", &database) == SQLITE_OK);
+    snprintf(statement, sizeof statement, "PRAGMA locking_mode=EXCLUSIVE; ATTACH 'file:%s?vfs=famsync&file=one' AS one",
+             volume);
+    must(database, statement);
+    WANT(answers(database, "PRAGMA one.journal_mode=WAL", "delete"));
+    must(database, "UPDATE one.row SET bytes = 'changed' WHERE id = 1; PRAGMA journal_mode=WAL");
+    WANT(run(database, "UPDATE one.row SET bytes = 'changed' WHERE id = 2") == SQLITE_CANTOPEN);
+    want_alone(1);
+    close_database(database);
+    want_whole("one", "DELETE", "1");
+}
+
 int main(int count, char **words)
 {
     WANT(count == 2);
@@ -232,6 +251,7 @@ int main(int count, char **words)
         }
         leaves_files_alone(modes[i]);
     }
+    makes_no_wal();
     printf("clients/sqlite: journals: as they should be\n");
     return 0;
 }

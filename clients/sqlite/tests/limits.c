@@ -190,19 +190,23 @@ static void refuses_a_large_database(void)
 
 static void answers_pragmas(void)
 {
-    static const char *const refused[] = {
-        "PRAGMA locking_mode=EXCLUSIVE", "PRAGMA synchronous=OFF",    "PRAGMA synchronous=0",
-        "PRAGMA synchronous=no",         "PRAGMA synchronous=7",      "PRAGMA synchronous=false",
-        "PRAGMA journal_mode=OFF",       "PRAGMA journal_mode='off'",
-    };
     static const char *const taken[][2] = {
         {"PRAGMA journal_mode=WAL", "memory"}, /* it stays what it was */
         {"PRAGMA journal_mode=DELETE", "delete"},
         {"PRAGMA journal_mode=WAL", "delete"},
         {"PRAGMA journal_mode=TRUNCATE", "truncate"},
         {"PRAGMA journal_mode=PERSIST", "persist"},
+        {"PRAGMA journal_mode='off'", "off"},
+        {"PRAGMA journal_mode=WAL", "off"},
         {"PRAGMA journal_mode=MEMORY", "memory"},
+        {"PRAGMA locking_mode=EXCLUSIVE", "exclusive"},
+        {"PRAGMA journal_mode=WAL", "memory"},
+        {"PRAGMA journal_mode=DELETE", "delete"},
+        {"PRAGMA main.journal_mode=w", "delete"},
+        {"PRAGMA locking_mode", "exclusive"},
         {"PRAGMA locking_mode=NORMAL", "normal"},
+        {"PRAGMA journal_mode='wal'", "delete"},
+        {"PRAGMA synchronous=OFF; PRAGMA synchronous", "0"},
         {"PRAGMA synchronous=NORMAL; PRAGMA synchronous", "1"},
         {"PRAGMA synchronous=FULL; PRAGMA synchronous", "2"},
         {"PRAGMA synchronous=EXTRA; PRAGMA synchronous", "3"},
@@ -210,16 +214,15 @@ static void answers_pragmas(void)
         {"PRAGMA mmap_size=1000000", ""},
         {"PRAGMA page_size", "4096"},
     };
+    char count[20];
     begin(3);
-    for (size_t i = 0; i < sizeof refused / sizeof refused[0]; i++)
-        WANT(run(database, refused[i]) == SQLITE_ERROR);
-    WANT(answers(database, "PRAGMA locking_mode", "normal") && answers(database, "PRAGMA synchronous", "2"));
     for (size_t i = 0; i < sizeof taken / sizeof taken[0]; i++) {
         must(database, "INSERT INTO row VALUES (NULL, 'one more')");
         WANT(answers(database, taken[i][0], taken[i][1]));
     }
+    snprintf(count, sizeof count, "%zu", sizeof taken / sizeof taken[0]);
     reopen();
-    WANT(answers(database, "SELECT count(*) FROM row", "13") && answers(database, "PRAGMA integrity_check", "ok"));
+    WANT(answers(database, "SELECT count(*) FROM row", count) && answers(database, "PRAGMA integrity_check", "ok"));
     end();
 }
 

@@ -150,14 +150,16 @@ static void change_rows(void)
 static void reopen(void)
 {
     static const char *const journals[] = {"MEMORY", "MEMORY", "MEMORY", "DELETE", "TRUNCATE", "PERSIST"};
+    static const char *const syncs[] = {"FULL", "NORMAL", "OFF"};
     char text[200];
     if (ours)
         WANT(sqlite3_close(ours) == SQLITE_OK);
     if (!sqlite3_get_autocommit(mirror))
         must(mirror, "ROLLBACK");
     WANT(open_database(path, &ours) == SQLITE_OK);
-    snprintf(text, sizeof text, "PRAGMA journal_mode=%s; PRAGMA cache_size=%u; PRAGMA synchronous=%s", ONE_OF(journals),
-             below(3) ? 5 + below(20) : 2000, below(2) ? "FULL" : "NORMAL");
+    snprintf(text, sizeof text,
+             "PRAGMA journal_mode=%s; PRAGMA cache_size=%u; PRAGMA synchronous=%s; PRAGMA locking_mode=%s",
+             ONE_OF(journals), below(3) ? 5 + below(20) : 2000, ONE_OF(syncs), below(3) ? "NORMAL" : "EXCLUSIVE");
     must(ours, text);
     reopened++;
 }
