@@ -7,7 +7,7 @@ import operator
 import os
 import weakref
 from types import TracebackType
-from typing import TYPE_CHECKING, Any, NoReturn, Optional, SupportsIndex, Type, overload
+from typing import TYPE_CHECKING, Any, Dict, NoReturn, Optional, SupportsIndex, Type, overload
 
 from ._errors import Argument, Forked, ReadOnly, check
 from ._library import library, words
@@ -54,9 +54,9 @@ class _Byte(ctypes.Union):
 class Memory:
     """A file as memory of this process, which `Volume.memory` opens.
 
-    Indexes and slices read and store bytes. `view` returns all bytes as a memoryview. From Python 3.12 on, the object
-    itself is a writable buffer, like `mmap.mmap`. In a session that only reads, stores raise ReadOnly, and views are
-    read-only. A commit makes all stores durable.
+    Indexes and slices read and store bytes. `view` returns all bytes as a memoryview. `numpy.asarray` returns an array
+    that shares the bytes. From Python 3.12 on, the object itself is a writable buffer, like `mmap.mmap`. In a session
+    that only reads, stores raise ReadOnly, and views are read-only. A commit makes all stores durable.
     """
 
     name: str
@@ -91,6 +91,13 @@ class Memory:
 
     def __buffer__(self, flags: int) -> memoryview:
         return self.view()
+
+    @property
+    def __array_interface__(self) -> Dict[str, Any]:
+        """NumPy's own form of a buffer, by which an array shares the bytes before Python 3.12, too. The array refers to
+        the view, so that the memory can't be closed meanwhile."""
+        view = self.view()
+        return {"version": 3, "typestr": "|u1", "shape": (len(view),), "data": view}
 
     def __bytes__(self) -> bytes:
         return bytes(self._opened())

@@ -282,6 +282,23 @@ class AtAnAddress(InAFolder):
             self.assertEqual(volume.memory("a")[0], 3)
         self.assertRaises(famsync.Argument, famsync.open, "v.img", budget=-1)
 
+    def test_as_an_array(self):
+        """What NumPy asks for, in each version of Python: a view that is writable, and keeps the memory open."""
+        for readonly in (False, True):
+            with self.opened(readonly=readonly) as volume:
+                memory = volume.memory("a")
+                interface = memory.__array_interface__
+                view = interface.pop("data")
+                self.assertEqual(interface, {"version": 3, "typestr": "|u1", "shape": (len(memory),)})
+                self.assertEqual((len(view), view.readonly), (len(memory), readonly))
+                if not readonly:
+                    view[0] = 7
+                    self.assertEqual(memory[0], 7)
+                self.assertRaises(BufferError, memory.close)
+                del view
+                memory.close()
+                self.assertRaises(ValueError, lambda: memory.__array_interface__)
+
 
 class Rollbacks(InAFolder):
     slots, files, layout = 4, ("a=20000/40000", "b=5000"), 4

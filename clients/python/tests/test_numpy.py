@@ -22,6 +22,40 @@ if HAS_NUMPY:
 
 
 @unittest.skipUnless(HAS_NUMPY, "there is no NumPy here")
+class Arrays(InAFolder):
+    def test_an_array_shares_the_memory(self):
+        volume = self.opened()
+        memory = volume.memory("a")
+        for make in (numpy.asarray, lambda memory: numpy.array(memory, copy=False)):
+            array = make(memory)
+            self.assertEqual((array.dtype, array.shape, array.flags.writeable), (numpy.uint8, (20000,), True))
+            before = memory[19999]
+            array[19999] += 1
+            self.assertEqual((memory[19999], memory.dirty), (before + 1, 1))
+            self.assertRaises(BufferError, memory.close)
+            self.assertRaises(BufferError, volume.close)
+            part = array[100:].view()
+            del array
+            self.assertRaises(BufferError, memory.close)
+            del part
+        copy = numpy.array(memory)
+        memory.close()
+        self.assertRaises(ValueError, numpy.asarray, memory)
+        self.assertEqual(copy[19999], 2)
+        with volume.memory("a") as memory:
+            memory[0:4] = numpy.array([7, 8], dtype="<u2")
+            numpy.add(memory, 1, out=numpy.asarray(memory))
+            self.assertEqual(memory[0:4], b"\x08\1\x09\1")
+            volume.commit()
+        volume.close()
+        with famsync.open("v.img", readonly=True) as volume, volume.memory("a") as memory:
+            array = numpy.asarray(memory)
+            self.assertEqual((array[0], array.flags.writeable), (8, False))
+            self.assertRaises(ValueError, array.__setitem__, 0, 1)
+            del array
+
+
+@unittest.skipUnless(HAS_NUMPY, "there is no NumPy here")
 class Sandpile(InAFolder):
     files = ("pile=36864",)
 

@@ -248,9 +248,10 @@ class Interrupted(InAFolder):
             if os.path.dirname(frame.f_code.co_filename) != FOLDER and frame.f_code is not CHANGE or left[0] < 0:
                 return None
             frame.f_trace_opcodes = True
-            left[0] -= 1
-            if left[0] < 0:
-                raise KeyboardInterrupt
+            if event in ("call", "opcode"):
+                left[0] -= 1
+                if left[0] < 0:
+                    raise KeyboardInterrupt
             return trace
 
         with suppress(KeyboardInterrupt, ZeroDivisionError):
