@@ -351,11 +351,23 @@ impl Volume {
     /// The bytes of a file, as they were stored.
     ///
     /// [`Code::Overlap`] where they are [`words`](Volume::words) to somebody who shares the volume.
+    ///
+    /// The slice is a mapping of the volume's file, so it is only as safe as this file. The lock doesn't stop programs
+    /// that ignore it:
+    ///
+    /// - If anybody writes to the file by other means, the bytes of the slice can change while it lives. Then Rust's
+    ///   rules for a slice are broken.
+    /// - If the file is truncated or can't be read, a load raises SIGBUS, which ends the process.
+    /// - In a forked process, the slice can show bytes that the parent committed later.
+    ///
+    /// With [`resident`](Options::resident) none of this happens: the slice is memory of this process, which is read
+    /// when the memory is opened.
     pub fn memory(&self, file: &str) -> Result<&[u8], Error> {
         self.opened(file)?.bytes()
     }
 
-    /// The bytes of a file, to be stored to.
+    /// The bytes of a file, to be stored to. A page that wasn't stored to since the last commit can change or fault as in
+    /// [`memory`](Volume::memory), which [`resident`](Options::resident) prevents.
     ///
     /// ```
     /// # include!(concat!(env!("CARGO_MANIFEST_DIR"), "/tests/volumes/mod.rs"));

@@ -3,8 +3,10 @@
 mod volumes;
 
 use famsync::{Code, Error, Options, Volume};
-use std::fs::File;
+use std::fs::{File, OpenOptions};
+use std::hint::black_box;
 use std::io::{repeat, Read};
+use std::os::unix::fs::FileExt;
 use std::panic::{catch_unwind, AssertUnwindSafe};
 use std::sync::atomic::Ordering;
 use volumes::make_volume;
@@ -115,6 +117,19 @@ fn rollbacks() {
     }
     let mut volume = Options::new().readonly(true).open(made.path()).unwrap();
     assert_eq!(volume.rollback().unwrap_err().code(), Code::ReadOnly);
+}
+
+/// With `resident` it doesn't matter what becomes of the volume's file.
+#[test]
+fn a_file_that_others_change() {
+    let made = make_volume(1, 4, "a=40960");
+    let volume = Options::new().resident(true).open(made.path()).unwrap();
+    let bytes = volume.memory("a").unwrap();
+    let file = OpenOptions::new().write(true).open(made.path()).unwrap();
+    file.write_all_at(&[7; 40960], 7 * 4096).unwrap();
+    assert!(black_box(bytes).iter().all(|byte| *byte == 0));
+    file.set_len(4096).unwrap();
+    assert!(black_box(bytes).iter().all(|byte| *byte == 0));
 }
 
 #[test]
