@@ -103,7 +103,7 @@ enum famsync_code {
                               stored to plain memory during the commit (only with
                               FAMSYNC_TRACK_KERNEL). From famsync_open and famsync_rollback, in
                               layouts 5 and 6: no number is left for another opening (a volume
-                              allows at most 2^64 - 1 openings). From famsync_msync and
+                              allows at most 2^64 - 2 openings). From famsync_msync and
                               famsync_rollback: this thread holds a group (see famsync_begin). From
                               famsync_close: a group is open. */
 
