@@ -366,8 +366,8 @@ impl Volume {
         self.opened(file)?.bytes()
     }
 
-    /// The bytes of a file, to be stored to. A page that wasn't stored to since the last commit can change or fault as in
-    /// [`memory`](Volume::memory), which [`resident`](Options::resident) prevents.
+    /// The bytes of a file, to be stored to. A page that wasn't stored to since the last commit can change or fault as
+    /// in [`memory`](Volume::memory), which [`resident`](Options::resident) prevents.
     ///
     /// ```
     /// # include!(concat!(env!("CARGO_MANIFEST_DIR"), "/tests/volumes/mod.rs"));
