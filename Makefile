@@ -12,7 +12,7 @@ OUT ?= out
 PROVED = PROGRAM='$(PROGRAM)' CORE='$(CORE)'
 
 all:
-	$(MAKE) -C clients/c $(if $(CORE),CORE='$(if $(filter mock,$(CORE)),mock,$(abspath $(CORE)))')
+	$(MAKE) -C clients/c $(if $(CORE),CORE='$(if $(filter unproved,$(CORE)),unproved,$(abspath $(CORE)))')
 
 install:
 	@tree=$$(mktemp -d) && trap 'rm -rf "$$tree"' EXIT && $(PROVED) packaging/stage "$$tree" && \

@@ -1,4 +1,4 @@
-/* Whatever the core answers, a call returns a code of famsync.h. Only the core for tests can be told what to answer. */
+/* Whatever the core answers, a call returns a code of famsync.h. wrapped_core.c sets what the core answers. */
 #include "test.h"
 
 #include <limits.h>
@@ -7,7 +7,7 @@ static void tell_core(int answer)
 {
     char text[16];
     snprintf(text, sizeof text, "%d", answer);
-    WANT(setenv("MOCK_ANSWER", text, 1) == 0);
+    WANT(setenv("CORE_ANSWER", text, 1) == 0);
 }
 
 static bool is_public(int code)
@@ -45,7 +45,7 @@ static void any_answer(int answer)
     want_public(famsync_read(handle, 0, 0, (char[1]){0}, 1, NULL), answer, "famsync_read");
     want_public(famsync_setlength(handle, "a", 1), answer, "famsync_setlength");
     want_public(famsync_msync(handle, NULL), answer, "famsync_msync");
-    WANT(unsetenv("MOCK_ANSWER") == 0);
+    WANT(unsetenv("CORE_ANSWER") == 0);
     famsync_close(handle);
 }
 
@@ -58,13 +58,13 @@ static void unknown_answer(int answer)
     want_unknown(famsync_read(handle, 0, 0, (char[1]){0}, 1, NULL), answer, "famsync_read");
     want_unknown(famsync_setlength(handle, "a", 1), answer, "famsync_setlength");
     want_unknown(famsync_msync(handle, NULL), answer, "famsync_msync");
-    WANT(unsetenv("MOCK_ANSWER") == 0);
+    WANT(unsetenv("CORE_ANSWER") == 0);
     WANT_CODE(famsync_write(handle, 0, 0, "x", 1, NULL), FAMSYNC_OK);
     WANT_CODE(famsync_msync(handle, NULL), FAMSYNC_OK);
     WANT_CODE(famsync_close(handle), FAMSYNC_OK);
     tell_core(answer);
     want_unknown(famsync_open(volume, NULL, &second), answer, "famsync_open");
-    WANT(unsetenv("MOCK_ANSWER") == 0);
+    WANT(unsetenv("CORE_ANSWER") == 0);
 }
 
 /* No file gets its name in which the core doesn't find what was asked for. */
@@ -77,7 +77,7 @@ static void is_not_made(int answer, int code)
         famsync_format(volume, &(struct famsync_plan){.size = sizeof(struct famsync_plan), .files = 1, .file = &file}),
         code);
     WANT(code != FAMSYNC_SYSTEM || errno == EPROTO);
-    WANT(unsetenv("MOCK_ANSWER") == 0);
+    WANT(unsetenv("CORE_ANSWER") == 0);
     WANT(access(volume, F_OK) != 0);
 }
 

@@ -263,9 +263,8 @@ int main(void)
             for (unsigned i = 0; i < 3; i++)
                 for (enum failure failure = 0; failure < FAILURES; failure++)
                     failed[failure] += each(failure, THEN[i]);
-    WANT(failed[TOO_MANY] > 0 && failed[NO_PROTECTION] > 0);
+    WANT(failed[TOO_MANY] > 0 && failed[NO_READ] > 0 && failed[NO_PROTECTION] > 0);
     WANT(failed[NO_MEMORY] > 0 || !has_own_malloc);
-    WANT(failed[NO_READ] > 0 || !has_log(LAYOUTS));
     printf("clients/c: failed_commits: %u had too many pages, %u no memory, %u a failed read, %u no protection\n",
            failed[TOO_MANY], failed[NO_MEMORY], failed[NO_READ], failed[NO_PROTECTION]);
     return 0;

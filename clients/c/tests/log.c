@@ -7,9 +7,6 @@
 #include <sys/mman.h>
 #include <sys/uio.h>
 
-/* Whether the core has logs. */
-#define HAS_LOGS (LAYOUTS > JOURNAL_LAYOUTS)
-
 /* A ring of 64 blocks: a commit has at most 62 records, of which one is of the lengths. */
 #define SLOTS 62u
 #define RING 64u
@@ -486,7 +483,7 @@ int main(void)
     WANT(acknowledged != MAP_FAILED);
     is_slow = getenv("WITHOUT_SIGNALS") != NULL;
     srand(1);
-    for (layout = JOURNAL_LAYOUTS + 1; HAS_LOGS && layout <= LAYOUTS; layout++) {
+    for (layout = JOURNAL_LAYOUTS + 1; layout <= LAYOUTS; layout++) {
         for (int foreground = 0; foreground < 2; foreground++) {
             round_the_ring(foreground, false);
             round_the_ring(foreground, true);

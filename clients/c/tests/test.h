@@ -93,12 +93,9 @@ static inline void put_number(unsigned char *bytes, unsigned count, uint64_t num
         bytes[i - 1] = (unsigned char)number;
 }
 
-/* Layouts 1 to LAYOUTS, as docs/FORMATS.md has them: with journals up to JOURNAL_LAYOUTS, and then with a log. The core
-   of tests/mock_core.c has no logs, so with it LAYOUTS is JOURNAL_LAYOUTS. */
+/* Layouts 1 to LAYOUTS, as docs/FORMATS.md has them: with journals up to JOURNAL_LAYOUTS, and then with a log. */
 #define JOURNAL_LAYOUTS 4u
-#ifndef LAYOUTS
 #define LAYOUTS 6u
-#endif
 
 static inline bool has_log(unsigned layout)
 {
