@@ -64,6 +64,14 @@ static int close_database(sqlite3_file *file)
     return code_for(famsync_close(database->volume), SQLITE_IOERR_CLOSE);
 }
 
+/* A call of the library failed. */
+static int failed(const struct database *database, const char *what, int code, int other)
+{
+    int error = error_of(code);
+    return fail(code_for(code, other), error, "\"%s\": %s: %s%s%s", database->path, what, famsync_strerror(code),
+                error ? ": " : "", error ? strerror(error) : "");
+}
+
 /* Fails as the commit did after which this connection can't be used. */
 static int failed_again(const struct database *database, int code)
 {
@@ -156,7 +164,7 @@ static int read_database(sqlite3_file *file, void *bytes, int count, sqlite3_int
     end = left < count ? (size_t)left : (size_t)count;
     code = read_parts(database, bytes, end, at);
     if (code != FAMSYNC_OK)
-        return code_for(code, SQLITE_IOERR_READ);
+        return failed(database, "a read failed", code, SQLITE_IOERR_READ);
     if (is_head(count, at))
         leave_wal(bytes);
     memset((char *)bytes + end, 0, (size_t)count - end);
@@ -172,11 +180,12 @@ static int write_part(struct database *database, const char *bytes, size_t count
         unsigned char *copy = database->pages + (size_t)database->waiting * PAGE;
         int code = famsync_read(database->volume, database->number, place - within, copy, PAGE, NULL);
         if (code != FAMSYNC_OK)
-            return code_for(code, SQLITE_IOERR_WRITE);
+            return failed(database, "a read failed", code, SQLITE_IOERR_WRITE);
         if (memcmp(copy + within, bytes, count) == 0)
             return SQLITE_OK;
         if (database->waiting == database->limit)
-            return SQLITE_FULL;
+            return fail(SQLITE_FULL, 0, "\"%s\": a transaction can change at most %u pages", database->path,
+                        database->limit);
         database->waits[page] = copy;
         database->order[database->waiting++] = page;
     }
@@ -208,12 +217,18 @@ static int write_head(struct database *database, const char *bytes, size_t count
     return code == SQLITE_OK ? write_parts(database, bytes + HEAD, count - HEAD, HEAD) : code;
 }
 
+static int refuse_size(const struct database *database)
+{
+    return fail(SQLITE_FULL, 0, "\"%s\", file \"%s\": the database can have at most %lld bytes", database->path,
+                famsync_file_name(database->volume, database->number), (long long)database->room);
+}
+
 static int write_database(sqlite3_file *file, const void *bytes, int count, sqlite3_int64 at)
 {
     struct database *database = (struct database *)file;
     int code;
     if (at > database->room - count)
-        return SQLITE_FULL;
+        return refuse_size(database);
     if (database->torn)
         return failed_again(database, SQLITE_IOERR_WRITE);
     if (is_head(count, at))
@@ -235,7 +250,7 @@ static int truncate_database(sqlite3_file *file, sqlite3_int64 size)
 {
     struct database *database = (struct database *)file;
     if (size > database->room)
-        return SQLITE_FULL;
+        return refuse_size(database);
     if (is_committed(database))
         database->kept = size;
     database->size = size;
@@ -290,8 +305,7 @@ static int tear(struct database *database, int code)
 {
     database->torn = true;
     database->error = error_of(code);
-    return fail(code_for(code, SQLITE_IOERR_FSYNC), database->error, "\"%s\": a commit failed: %s%s%s", database->path,
-                famsync_strerror(code), database->error ? ": " : "", database->error ? strerror(database->error) : "");
+    return failed(database, "a commit failed", code, SQLITE_IOERR_FSYNC);
 }
 
 static int sync_database(sqlite3_file *file, int flags)
@@ -397,7 +411,7 @@ static int read_size(struct database *database)
     uint64_t size;
     int code = famsync_read(database->volume, database->number, 0, head, sizeof head, NULL);
     if (code != FAMSYNC_OK)
-        return fail(code_for(code, SQLITE_IOERR_READ), 0, "\"%s\": %s", database->path, famsync_strerror(code));
+        return failed(database, "a read failed", code, SQLITE_IOERR_READ);
     if (memcmp(head, nothing, sizeof head) == 0)
         return SQLITE_OK;
     size = number_in(head + 16, 8);

@@ -1,4 +1,4 @@
-/* SQLite's codes for those of the library, and why an opening or a commit failed last. */
+/* SQLite's codes for those of the library, and why a call failed last. */
 #include "vfs.h"
 
 #include <errno.h>
@@ -12,6 +12,7 @@
 static struct {
     bool known;
     pthread_t thread;
+    int code;  /* SQLite's */
     int error; /* errno, 0 for a failure that isn't the system's */
     char text[FAMSYNC_MESSAGE_SIZE];
 } last;
@@ -69,6 +70,7 @@ int fail(int code, int error, const char *format, ...)
     turn = take_turn();
     last.known = true;
     last.thread = pthread_self();
+    last.code = code;
     last.error = error;
     strcpy(last.text, text);
     sqlite3_mutex_leave(turn);
@@ -99,7 +101,8 @@ void answer_last_failure(sqlite3_context *context, int count, sqlite3_value **va
     sqlite3_mutex_leave(turn);
 }
 
-/* Without a line it is errno, which the library sets as the default VFS does. */
+/* Without a line it is errno, which the library sets as the default VFS does. SQLite asks for no errno after FULL, but
+   perhaps for that of a later failure of the default VFS. */
 int get_last_error(sqlite3_vfs *vfs, int count, char *text)
 {
     int error = errno;
@@ -108,7 +111,7 @@ int get_last_error(sqlite3_vfs *vfs, int count, char *text)
     (void)vfs;
     if (count > 0 && text)
         snprintf(text, (size_t)count, "%s", mine ? last.text : strerror(error));
-    if (mine)
+    if (mine && last.code != SQLITE_FULL)
         error = last.error;
     sqlite3_mutex_leave(turn);
     return error;

@@ -56,7 +56,8 @@ static int open_by_name(const char *path, sqlite3_file *file, int flags, int *fo
 static int open_file(sqlite3_vfs *vfs, const char *path, sqlite3_file *file, int flags, int *found)
 {
     (void)vfs;
-    forget_failure();
+    if (!(flags & SQLITE_OPEN_SUPER_JOURNAL)) /* a rollback after a failure reads it */
+        forget_failure();
     if (flags & SQLITE_OPEN_MAIN_DB)
         return says_volume(path) ? open_database(path, file, flags, found) : open_by_name(path, file, flags, found);
     if (flags & SQLITE_OPEN_MAIN_JOURNAL && is_beside_a_database(path, "-journal"))

@@ -65,8 +65,8 @@ int code_for_open(int code);
 /* errno after a call of the library that failed with `code`; 0 if this code isn't a failure of the
    system. */
 int error_of(int code);
-/* Makes a line that explains why an opening or a commit failed. Keeps this line for xGetLastError,
-   writes it to SQLite's log, and returns `code`. */
+/* Makes a line that explains why a call failed. Keeps this line for xGetLastError, writes it to
+   SQLite's log, and returns `code`. */
 int fail(int code, int error, const char *format, ...) __attribute__((format(printf, 3, 4)));
 void forget_failure(void);
 /* The SQL function famsync_error(): the kept line, if this thread had the last failure. */

@@ -235,11 +235,12 @@ static void finds_volumes(void)
     unlink(saved);
 }
 
-/* Why the last opening failed, by the SQL function and by xGetLastError. */
+/* Why the last call failed, by the SQL function and by xGetLastError. */
 static void want_said(sqlite3 *in, const char *words, int error)
 {
     char said[300], last[300];
     sqlite3_vfs *vfs = sqlite3_vfs_find("famsync");
+    errno = error;
     WANT(ask_for(in, "SELECT famsync_error()", said) == SQLITE_OK);
     if (!strstr(said, words))
         fprintf(stderr, "\"%s\" should have \"%s\"\n", said, words);
@@ -289,6 +290,33 @@ static void says_why(const char *extension)
     WANT(sqlite3_close(in) == SQLITE_OK);
 }
 
+/* Also about a transaction or a database that is too large, with each journal_mode. A rollback doesn't forget it. */
+static void says_what_is_full(const char *extension, const char *mode)
+{
+    sqlite3 *in;
+    begin(4, 30);
+    WANT(sqlite3_open(":memory:", &in) == SQLITE_OK && sqlite3_enable_load_extension(in, 1) == SQLITE_OK);
+    WANT(sqlite3_load_extension(in, extension, NULL, NULL) == SQLITE_OK);
+    must_with(database, "PRAGMA journal_mode=%s", mode);
+    WANT(run(database, rows) == SQLITE_FULL);
+    want_said(in, "v.img\": a transaction can change at most 28 pages", 0);
+    must_with(database, "ATTACH 'file:%s.new' AS plain; CREATE TABLE IF NOT EXISTS plain.t (n); CREATE TABLE t (n)",
+              plain);
+    WANT(answers(in, "SELECT famsync_error()", "NULL"));
+    must(database, "BEGIN; INSERT INTO plain.t VALUES (1); INSERT INTO t VALUES (zeroblob(200000))");
+    WANT(run(database, "COMMIT") == SQLITE_FULL);
+    want_said(in, "v.img\": a transaction can change at most 28 pages", 0);
+    end();
+    make_volume_of(2, 30, "db=40960");
+    WANT(open_database(path, &database) == SQLITE_OK);
+    must_with(database, "PRAGMA journal_mode=%s", mode);
+    WANT(run(database, "CREATE TABLE t AS SELECT zeroblob(50000)") == SQLITE_FULL);
+    want_said(in, "v.img\", file \"db\": the database can have at most 36864 bytes", 0);
+    WANT(answers(database, "SELECT count(*) FROM sqlite_schema", "0"));
+    end();
+    WANT(sqlite3_close(in) == SQLITE_OK);
+}
+
 /* A full disk is told from a broken one by errno, which SQLite asks for. */
 static void keeps_errno(void)
 {
@@ -328,6 +356,9 @@ int main(int count, char **words)
     rolls_a_plain_file_back();
     finds_volumes();
     says_why(words[1]);
+    says_what_is_full(words[1], "DELETE");
+    says_what_is_full(words[1], "MEMORY");
+    says_what_is_full(words[1], "OFF");
     WANT(strncmp(last, "famsync: ", 9) == 0);
     keeps_errno();
     printf("clients/sqlite: files: as they should be\n");

@@ -170,6 +170,29 @@ static void takes_large_transactions(void)
     end();
 }
 
+/* A large table, and few pages of a commit. To overwrite all that it deletes is too much; to give it back isn't. */
+static void deletes_a_large_table(unsigned layout)
+{
+    fresh(layout, SLOTS, "db=1638400");
+    WANT(open_database(path, &database) == SQLITE_OK);
+    must(database, "CREATE TABLE row (id INTEGER PRIMARY KEY, bytes BLOB)");
+    for (int first = 1; first < 100; first += 10)
+        WANT(store_rows(first, 10) == SQLITE_OK);
+    must(database, "PRAGMA secure_delete=ON");
+    WANT(run(database, "DELETE FROM row") == SQLITE_FULL && have("x", 100));
+    WANT(run(database, "DROP TABLE row") == SQLITE_FULL && have("x", 100));
+    must(database, "DELETE FROM row WHERE id > 90");
+    reopen();
+    WANT(have("x", 90));
+    must(database, "PRAGMA secure_delete=OFF; DELETE FROM row WHERE id > 20; VACUUM");
+    WANT(have("x", 20) && answers(database, "PRAGMA page_count", "22"));
+    must(database, "DELETE FROM row");
+    WANT(store_rows(1, 10) == SQLITE_OK);
+    must(database, "DROP TABLE row; VACUUM");
+    WANT(answers(database, "PRAGMA page_count", "1"));
+    end();
+}
+
 /* A database is as large as its file, less one page. */
 static void refuses_a_large_database(void)
 {
@@ -255,6 +278,7 @@ int main(int count, char **words)
     for (unsigned layout = 1; layout <= LAYOUTS; layout++) {
         refuses_large_transactions(layout, "PRAGMA cache_size=2000");
         refuses_large_transactions(layout, "PRAGMA cache_size=5");
+        deletes_a_large_table(layout);
     }
     takes_large_transactions();
     refuses_a_large_database();
