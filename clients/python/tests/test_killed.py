@@ -1,6 +1,6 @@
-"""The bank of bank.py is killed at random moments: its sum is 0 after each, and each transfer that was acknowledged is
-there; every fifth time it is interrupted, as from a terminal. KILLS in the environment says how often: 25 where it
-isn't set."""
+"""The banks of bank.py, and of transfers.py, whose transfers are transactions, are killed at random moments: the sum is
+0 after each, and each transfer that was acknowledged is there; every fifth time they are interrupted, as from a
+terminal. KILLS in the environment says how often: 25 where it isn't set."""
 
 import os
 import random
@@ -12,10 +12,9 @@ import sys
 import time
 import unittest
 
-from support import PACKAGE, InAFolder, famsync
+from support import HERE, PACKAGE, InAFolder, famsync
 
 KILLS = int(os.environ.get("KILLS", "25"))
-BANK = [sys.executable, f"{PACKAGE}/bank.py", "v.img"]
 
 
 def interruptible():
@@ -25,11 +24,12 @@ def interruptible():
 
 class Killed(InAFolder):
     files = ("bank=16384",)
+    bank = [sys.executable, f"{PACKAGE}/bank.py", "v.img"]
 
     def ended(self, wait, number):
         """The last transfer that a bank acknowledges which gets a signal after a while."""
         pipes = {"stdout": subprocess.PIPE, "stderr": subprocess.PIPE, "text": True}
-        with subprocess.Popen(BANK, preexec_fn=interruptible, **pipes) as bank:
+        with subprocess.Popen(self.bank, preexec_fn=interruptible, **pipes) as bank:
             first = bank.stdout.readline()
             time.sleep(wait)
             self.assertIsNone(bank.poll(), "it ended by itself")
@@ -47,7 +47,7 @@ class Killed(InAFolder):
         return numbers[0]
 
     def checked(self):
-        checked = subprocess.run([*BANK, "--check"], capture_output=True, text=True, timeout=60)
+        checked = subprocess.run([*self.bank, "--check"], capture_output=True, text=True, timeout=60)
         return checked.returncode, checked.stdout
 
     def test_the_sum_is_kept(self):
@@ -59,12 +59,16 @@ class Killed(InAFolder):
         self.assertEqual(self.checked(), (0, f"sum 0, {found} transfers\n"))
 
     def test_a_sum_that_is_not_0_is_reported(self):
-        subprocess.run([*BANK, "3"], check=True, capture_output=True, timeout=60)
+        subprocess.run([*self.bank, "3"], check=True, capture_output=True, timeout=60)
         self.assertEqual(self.checked(), (0, "sum 0, 3 transfers\n"))
         with open("v.img", "r+b") as file:
             file.seek(-8192, os.SEEK_END)
             file.write(b"\1")
         self.assertEqual(self.checked(), (1, "sum 1, 3 transfers\n"))
+
+
+class KilledInTransactions(Killed):
+    bank = [sys.executable, f"{HERE}/transfers.py", "v.img"]
 
 
 if __name__ == "__main__":

@@ -1,5 +1,5 @@
-//! The bank of the examples, killed at random moments: the sum holds, and each transfer that was acknowledged is there.
-//! `KILLS` in the environment says how often.
+//! The banks of the examples, killed at random moments: the sum holds, and each transfer that was acknowledged is
+//! there. `KILLS` in the environment says how often.
 
 mod volumes;
 
@@ -15,18 +15,18 @@ use volumes::make_volume;
 /// The transfers that are made at once, each of which may be there without being acknowledged.
 const THREADS: i64 = 4;
 
-/// The example, which `cargo test` builds beside the tests.
-fn bank() -> PathBuf {
+/// An example, which `cargo test` builds beside the tests.
+fn example(name: &str) -> PathBuf {
     let deps = env::current_exe().unwrap();
-    let path = deps.ancestors().nth(2).unwrap().join("examples/bank");
-    assert!(path.exists(), "{path:?} isn't there: cargo build --example bank");
+    let path = deps.ancestors().nth(2).unwrap().join("examples").join(name);
+    assert!(path.exists(), "{path:?} isn't there: cargo build --example {name}");
     path
 }
 
 /// Makes transfers until it is killed, so long after it began or after the first one; the number of the last one that
 /// was acknowledged, 0 for none.
-fn killed_after(time: Duration, of_the_first: bool, volume: &Path) -> i64 {
-    let mut process = Command::new(bank()).arg(volume).stdout(Stdio::piped()).spawn().unwrap();
+fn killed_after(bank: &Path, time: Duration, of_the_first: bool, volume: &Path) -> i64 {
+    let mut process = Command::new(bank).arg(volume).stdout(Stdio::piped()).spawn().unwrap();
     let mut output = BufReader::new(process.stdout.take().unwrap());
     let mut lines = String::new();
     if of_the_first {
@@ -41,37 +41,55 @@ fn killed_after(time: Duration, of_the_first: bool, volume: &Path) -> i64 {
 }
 
 /// How many transfers there are.
-fn found(volume: &Path) -> i64 {
-    let ran = Command::new(bank()).arg(volume).arg("--check").output().unwrap();
+fn found(bank: &Path, volume: &Path) -> i64 {
+    let ran = Command::new(bank).arg(volume).arg("--check").output().unwrap();
     let said = String::from_utf8_lossy(&ran.stdout);
     let count = said.strip_prefix("sum 0, ").and_then(|rest| rest.strip_suffix(" transfers\n"));
     assert!(ran.status.success() && count.is_some(), "{said}{}", String::from_utf8_lossy(&ran.stderr));
     count.unwrap().parse().unwrap()
 }
 
-#[test]
-fn the_sum_holds() {
+/// A bank that has at most so many transfers in progress is killed again and again.
+fn the_sum_holds(name: &str, side: i64) {
+    let bank = &example(name);
     let kills: u32 = env::var("KILLS").map_or(25, |kills| kills.parse().unwrap());
     let made = make_volume(2, 64, "bank=16384");
     let mut known = 0;
     for turn in 0..kills {
         let time = Duration::from_micros(RandomState::new().build_hasher().finish() % 100_000);
-        known = killed_after(time, turn % 2 == 0, &made.path()).max(known);
-        let found = found(&made.path());
-        assert!((known..=known + THREADS).contains(&found), "{known} were acknowledged, and {found} are there");
+        known = killed_after(bank, time, turn % 2 == 0, &made.path()).max(known);
+        let found = found(bank, &made.path());
+        assert!((known..=known + side).contains(&found), "{known} were acknowledged, and {found} are there");
         known = found;
     }
-    println!("{kills} kills, sum 0, {known} transfers, none that was acknowledged is missing");
+    println!("{name}: {kills} kills, sum 0, {known} transfers, none that was acknowledged is missing");
+}
+
+#[test]
+fn the_sum_of_the_bank_holds() {
+    the_sum_holds("bank", THREADS);
+}
+
+/// Each transfer is a transaction, and some of them fail halfway.
+#[test]
+fn the_sum_of_transactions_holds() {
+    the_sum_holds("transfers", 1);
+}
+
+fn makes_as_many_as_are_asked_for(name: &str) {
+    let bank = &example(name);
+    let made = make_volume(1, 16, "bank=8192");
+    for made_before in [0, 30] {
+        assert_eq!(found(bank, &made.path()), made_before);
+        let ran = Command::new(bank).arg(made.path()).arg("30").output().unwrap();
+        assert_eq!(String::from_utf8_lossy(&ran.stdout).lines().count(), 30);
+    }
+    assert_eq!(found(bank, &made.path()), 60);
+    assert_eq!(Command::new(bank).output().unwrap().status.code(), Some(1));
 }
 
 #[test]
 fn so_many_transfers_as_are_asked_for() {
-    let made = make_volume(1, 16, "bank=8192");
-    for made_before in [0, 30] {
-        assert_eq!(found(&made.path()), made_before);
-        let ran = Command::new(bank()).arg(made.path()).arg("30").output().unwrap();
-        assert_eq!(String::from_utf8_lossy(&ran.stdout).lines().count(), 30);
-    }
-    assert_eq!(found(&made.path()), 60);
-    assert_eq!(Command::new(bank()).output().unwrap().status.code(), Some(1));
+    makes_as_many_as_are_asked_for("bank");
+    makes_as_many_as_are_asked_for("transfers");
 }
