@@ -147,13 +147,12 @@ static int judge_recovery(famsync *handle)
 }
 
 /* Has the core open the volume, with the blocks that it wants. */
-static int open_with_blocks(famsync *handle, unsigned frames)
+static int open_with_blocks(famsync *handle, unsigned frames, struct opening *opening)
 {
-    struct opening opening = {0};
     for (;;) {
         uint32_t wanted = 0;
         int32_t answer = famsync_core_open(handle->core, frames, &wanted, &handle->core.at);
-        int code = answer == FAMSYNC_CORE_WANTED ? supply_to_open(handle, wanted, &opening) : code_of(answer);
+        int code = answer == FAMSYNC_CORE_WANTED ? supply_to_open(handle, wanted, opening) : code_of(answer);
         if (answer == FAMSYNC_CORE_WANTED && code == FAMSYNC_OK)
             continue;
         if (answer == FAMSYNC_CORE_DEVICE) /* there was no memory for a call that it would record */
@@ -162,16 +161,24 @@ static int open_with_blocks(famsync *handle, unsigned frames)
             explain(code, "no number is left for another opening");
         if (code == FAMSYNC_OK && handle->head == 0)
             code = read_volume(handle, frames);
-        if (code == FAMSYNC_OK)
-            forget_supplied(handle, &opening);
         return code;
     }
 }
 
-int begin_core(famsync *handle, unsigned frames)
+/* Begins a core, and leaves it to the caller to have it forget the supplied blocks. */
+static int begin_with_blocks(famsync *handle, unsigned frames, struct opening *opening)
 {
     int code = code_of(famsync_core_begin(handle->blocks, &handle->core.at));
-    return code == FAMSYNC_OK ? open_with_blocks(handle, frames) : code;
+    return code == FAMSYNC_OK ? open_with_blocks(handle, frames, opening) : code;
+}
+
+int begin_core(famsync *handle, unsigned frames)
+{
+    struct opening opening = {0};
+    int code = begin_with_blocks(handle, frames, &opening);
+    if (code == FAMSYNC_OK)
+        forget_supplied(handle, &opening);
+    return code;
 }
 
 /* How many writes are gathered: between two syncs no more is written than two journals have, or one where there aren't
@@ -181,15 +188,19 @@ static unsigned most_gathered(const famsync *handle)
     return handle->log.blocks > 0 ? MOST_WAITING : handle->head;
 }
 
-/* Opens the volume in the core, and makes what that records: what a crash left of a commit is carried out. */
+/* Opens the volume in the core, and makes what that records: what a crash left of a commit is carried out. The supplied
+   blocks are forgotten when no call waits, as the core compares a block that it forgets with each waiting write. */
 static int open_core(famsync *handle, const struct famsync_options *options)
 {
-    int code = begin_core(handle, options->frames);
+    struct opening opening = {0};
+    int code = begin_with_blocks(handle, options->frames, &opening);
     if (code == FAMSYNC_OK)
         code = begin_gathering(&handle->gathered, most_gathered(handle));
-    if (code != FAMSYNC_OK)
-        return code;
-    return handle->volume.readonly ? judge_recovery(handle) : drain(handle);
+    if (code == FAMSYNC_OK)
+        code = handle->volume.readonly ? judge_recovery(handle) : drain(handle);
+    if (code == FAMSYNC_OK)
+        forget_supplied(handle, &opening);
+    return code;
 }
 
 int open_other_core(famsync *handle, famsync_core *other)

@@ -33,6 +33,7 @@ void end_gathering(struct gathered *gathered)
 {
     free(gathered->piece);
     free(gathered->range);
+    free(gathered->late);
 }
 
 /* Ends the session: a call of the volume's file failed. */
@@ -201,24 +202,68 @@ static int write_gathered(famsync *handle)
     return code;
 }
 
-/* Forgets the blocks of a write. Where a write of several blocks ends within one, a log's next commit begins there, and
-   the core would want that block again. So it is kept, unless the write is long: the core keeps all of its bytes then.
- */
-static void forget_piece(famsync *handle, const struct piece *piece)
+/* The blocks of a write that are forgotten. Where a write of several blocks ends within one, a log's next commit begins
+   there, and the core would want that block again. So it is kept, unless the write is long: the core keeps all of its
+   bytes then. */
+static struct reading blocks_of(const famsync *handle, const struct piece *piece)
 {
     uint64_t block = piece->offset / PAGE, end = (piece->offset + piece->length) / PAGE;
     if (end == block || end - block > MOST_READ)
         end = (piece->offset + piece->length + PAGE - 1) / PAGE;
-    for (; block < end; block++)
-        if (block >= first_forgettable(handle) && block < handle->blocks)
-            famsync_core_forget(handle->core, (uint32_t)block, &handle->core.at);
+    if (block < first_forgettable(handle))
+        block = first_forgettable(handle);
+    if (end > handle->blocks)
+        end = handle->blocks;
+    return (struct reading){(uint32_t)block, block < end ? (uint32_t)(end - block) : 0};
 }
 
-/* The core needs a block of a file or of a log no longer once it is written: it is read again where it is wanted. */
+static void forget_blocks(famsync *handle, struct reading blocks)
+{
+    for (uint32_t i = 0; i < blocks.count; i++)
+        famsync_core_forget(handle->core, blocks.first + i, &handle->core.at);
+}
+
+/* Leaves it until later to forget some blocks. Whether there was memory to note them. */
+static bool postpone(struct gathered *gathered, struct reading blocks)
+{
+    struct reading *last = gathered->lates > 0 ? &gathered->late[gathered->lates - 1] : NULL;
+    if (last && last->first + last->count == blocks.first) {
+        last->count += blocks.count;
+        return true;
+    }
+    if (gathered->lates == gathered->room) {
+        unsigned room = 2 * gathered->room + MOST_WAITING;
+        struct reading *late = realloc(gathered->late, room * sizeof *late);
+        if (!late)
+            return false;
+        gathered->late = late;
+        gathered->room = room;
+    }
+    gathered->late[gathered->lates++] = blocks;
+    return true;
+}
+
+/* The core needs a block of a file or of a log no longer once it is written: it is read again where it is wanted. As it
+   compares a block that it forgets with each waiting write, this is left until later if there are many. */
 static void forget_gathered(famsync *handle)
 {
-    for (unsigned i = 0; i < handle->gathered.pieces; i++)
-        forget_piece(handle, &handle->gathered.piece[i]);
+    bool many = famsync_core_waiting(handle->core, &handle->core.at) > MOST_WAITING;
+    for (unsigned i = 0; i < handle->gathered.pieces; i++) {
+        struct reading blocks = blocks_of(handle, &handle->gathered.piece[i]);
+        if (!many || !postpone(&handle->gathered, blocks))
+            forget_blocks(handle, blocks);
+    }
+}
+
+/* Forgets what was left until no call waits. */
+static void forget_late(famsync *handle)
+{
+    struct gathered *gathered = &handle->gathered;
+    for (unsigned i = 0; i < gathered->lates; i++)
+        forget_blocks(handle, gathered->late[i]);
+    free(gathered->late);
+    gathered->late = NULL;
+    gathered->lates = gathered->room = 0;
 }
 
 /* Makes the oldest writes together, and reports them to the core when all of them are made. */
@@ -243,6 +288,8 @@ int drain_all(famsync *handle)
         errno = handle->error;
     while (code == FAMSYNC_OK && look_at(handle, 0, &oldest))
         code = oldest.kind == FAMSYNC_CORE_CALL_SYNC ? make_sync(handle) : make_writes(handle);
+    if (code == FAMSYNC_OK && handle->gathered.lates > 0)
+        forget_late(handle);
     return code;
 }
 

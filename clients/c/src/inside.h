@@ -86,15 +86,17 @@ struct piece {
     const unsigned char *bytes;
 };
 
+/* Blocks that were supplied or written together. */
+struct reading {
+    uint32_t first, count;
+};
+
 struct gathered {
     struct piece *piece;
     unsigned pieces, most;
-    struct iovec *range; /* room for the ranges that one system call writes */
-};
-
-/* Blocks that were supplied together. */
-struct reading {
-    uint32_t first, count;
+    struct iovec *range;  /* room for the ranges that one system call writes */
+    struct reading *late; /* written blocks that the core forgets once no call waits */
+    unsigned lates, room; /* their number, and the number for which `late` has room */
 };
 
 /* The blocks that were supplied to open a volume. `last` are the blocks of the last read. `end` is
@@ -331,7 +333,7 @@ void end_gathering(struct gathered *gathered);
    the block that the core wants for the opening of the volume. If this block follows the last
    supplied blocks, the call also supplies blocks after this block. Before the first call `*opening`
    is all zeros. Once the volume is open, `forget_supplied` makes the core forget the supplied
-   blocks of the files and of a log. */
+   blocks of the files and of a log. It takes long if many calls wait. */
 int supply_to_open(famsync *handle, uint32_t block, struct opening *opening);
 void forget_supplied(famsync *handle, const struct opening *opening);
 /* Reads whole blocks of the volume into `bytes`. */
