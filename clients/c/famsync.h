@@ -95,6 +95,8 @@ enum famsync_code {
     FAMSYNC_NOFRAME = -27, /* more pages were written or added than one commit can have */
     FAMSYNC_DEVICE = -28,  /* a read, a write or a sync of the volume failed; errno has the cause */
     FAMSYNC_BROKEN = -29,  /* a write or a sync failed earlier, so the session is over */
+    FAMSYNC_NOSPACE = -46, /* the disk is full, or a quota is used up; errno has the cause (see
+                              famsync_msync and famsync_open) */
     FAMSYNC_EINVAL = -30,  /* a write past the file's end, or a length that the file can't have */
     FAMSYNC_OVERLAP = -33, /* plain memory of the file is already open */
     FAMSYNC_NOFILE = -34,  /* the volume has no such file */
@@ -209,8 +211,7 @@ struct famsync_plan {
      list of the pages, a block with the files' lengths, and one free block. So a log of 16,384
      blocks allows 16,366 pages.
 
-   Without `preallocate`, the library's first write to a block fails if the disk is full. This
-   failure ends the session (FAMSYNC_DEVICE).
+   Without `preallocate`, commits fail with FAMSYNC_NOSPACE while the disk is full.
 
    A commit makes two syncs in layout 5, and one in layout 6. Layout 6 assumes that no partly
    written commit and no old bytes in the log match their digest.
@@ -226,6 +227,9 @@ int famsync_format(const char *volume, const struct famsync_plan *plan);
    FAMSYNC_INUSE: after `wait_ms` milliseconds the file is still locked by another session, or by a
    backup to this file.
    FAMSYNC_SYSTEM with ENAMETOOLONG: the file's name has more than 247 bytes.
+   FAMSYNC_NOSPACE: the disk is full, and the opening would write to blocks that aren't allocated.
+   Nothing changed. A volume made by this library has such blocks only if a program made holes in
+   it. A new volume of `famsync format` or of version 0.3 has them until its first opening.
 
    With the option `readonly`:
 
@@ -308,9 +312,14 @@ int famsync_write(famsync *handle, unsigned file, uint64_t offset, const void *b
    commits fail, too, until you discard changes. famsync_rollback discards all changes. Closing
    plain memory discards the stores to this memory.
 
+   FAMSYNC_NOSPACE: before a commit, the library allocates all blocks of the volume's file that the
+   commit will write, now or later. The disk has no room for them. Nothing is committed. Call again
+   once the disk has room, or discard changes. errno is ENOSPC, EDQUOT or EFBIG.
+
    FAMSYNC_DEVICE: a read, a write or a sync failed, and nothing is acknowledged.
 
-   - After a failed read the session continues, and you may call again.
+   - After a failed read or a failed allocation of blocks the session continues, and you may call
+     again.
    - After a failed write or sync the session is over. The session is also over if the library had
      no memory to prepare a write or a sync. In this case errno is ENOMEM.
    - When the session is over, later calls with the handle return FAMSYNC_BROKEN, except

@@ -23,6 +23,7 @@ int code_for(int code, int other)
     case FAMSYNC_OK:
         return SQLITE_OK;
     case FAMSYNC_NOFRAME:
+    case FAMSYNC_NOSPACE:
         return SQLITE_FULL;
     case FAMSYNC_NOMEMORY:
         return SQLITE_NOMEM;
@@ -56,7 +57,9 @@ int code_for_open(int code)
 
 int error_of(int code)
 {
-    return code == FAMSYNC_SYSTEM || code == FAMSYNC_DEVICE || code == FAMSYNC_UNMARKED ? errno : 0;
+    return code == FAMSYNC_SYSTEM || code == FAMSYNC_NOSPACE || code == FAMSYNC_DEVICE || code == FAMSYNC_UNMARKED
+               ? errno
+               : 0;
 }
 
 int fail(int code, int error, const char *format, ...)

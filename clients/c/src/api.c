@@ -84,6 +84,8 @@ static int read_super(famsync *handle)
     said = number_in(head + 16, 4);
     if (memcmp(head, "FAMSYNC", 7) != 0 || said == 0)
         said = 1;
+    handle->space.journals = head[7] == '1' ? 1 : head[7] == '4' ? 4 : 2;
+    handle->space.slots = (uint32_t)head[12] << 24 | (uint32_t)head[13] << 16 | (uint32_t)head[14] << 8 | head[15];
     handle->blocks = (uint32_t)(said < blocks ? said : blocks);
     return FAMSYNC_OK;
 }
@@ -188,6 +190,16 @@ static unsigned most_gathered(const famsync *handle)
     return handle->log.blocks > 0 ? MOST_WAITING : handle->head;
 }
 
+/* Makes what the opening has recorded, unless the disk is full. */
+static int make_opening_calls(famsync *handle)
+{
+    int code = begin_space(handle);
+    note_position(handle);
+    if (code == FAMSYNC_OK)
+        code = reserve_calls(handle);
+    return code == FAMSYNC_OK ? drain(handle) : code;
+}
+
 /* Opens the volume in the core, and makes what that records: what a crash left of a commit is carried out. The supplied
    blocks are forgotten when no call waits, as the core compares a block that it forgets with each waiting write. */
 static int open_core(famsync *handle, const struct famsync_options *options)
@@ -197,7 +209,7 @@ static int open_core(famsync *handle, const struct famsync_options *options)
     if (code == FAMSYNC_OK)
         code = begin_gathering(&handle->gathered, most_gathered(handle));
     if (code == FAMSYNC_OK)
-        code = handle->volume.readonly ? judge_recovery(handle) : drain(handle);
+        code = handle->volume.readonly ? judge_recovery(handle) : make_opening_calls(handle);
     if (code == FAMSYNC_OK)
         forget_supplied(handle, &opening);
     return code;
@@ -243,6 +255,7 @@ static void free_handle(famsync *handle)
     if (handle->core.at)
         famsync_core_close(handle->core);
     end_gathering(&handle->gathered);
+    end_space(&handle->space);
     free(handle->read);
     pthread_cond_destroy(&handle->work);
     pthread_cond_destroy(&handle->answered);

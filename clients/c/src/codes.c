@@ -27,6 +27,7 @@ static const struct {
     {FAMSYNC_DEVICE, "a read, a write or a sync of the volume failed, or memory for it couldn't be allocated"},
     {FAMSYNC_BROKEN, "a write or a sync of the volume failed earlier, so the session is over"},
     {FAMSYNC_EINVAL, "the bytes or the length are outside the file's range"},
+    {FAMSYNC_NOSPACE, "the disk is full, or a quota is used up"},
     {FAMSYNC_OVERLAP, "plain memory of the file is already open"},
     {FAMSYNC_NOFILE, "the volume has no such file"},
     {FAMSYNC_BUSY, "a group is open, a backup is being made, a thread stored during the commit, or no number is left "

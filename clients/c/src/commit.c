@@ -36,6 +36,7 @@ void forget_staged(famsync *handle)
     for (unsigned i = 0; i < handle->files; i++)
         handle->file[i].staged = (struct span){0, 0};
     handle->resized = false;
+    forget_claims(handle);
 }
 
 /* Makes a commit in the core, and what it records; it is acknowledged once all that was made. The sync of a commit
@@ -48,9 +49,10 @@ static int commit(famsync *handle, uint64_t *mark)
     int code = handle->shares_syncs ? FAMSYNC_OK : end_write_out(handle), drained;
     bool counts = pages > 0;
     int error;
-    if (code != FAMSYNC_OK)
-        return code;
-    code = write_some_out(handle, (uint64_t)pages);
+    if (code == FAMSYNC_OK)
+        code = reserve_space(handle);
+    if (code == FAMSYNC_OK)
+        code = write_some_out(handle, (uint64_t)pages);
     if (code != FAMSYNC_OK)
         return code;
     code = make_commit(handle, &number);

@@ -150,6 +150,26 @@ bool carries_out_commits(famsync *handle)
     return false;
 }
 
+int reserve_calls(famsync *handle)
+{
+    struct call call;
+    int code = FAMSYNC_OK;
+    for (uint32_t others = 0; code == FAMSYNC_OK && look_at(handle, others, &call); others++)
+        if (call.kind != FAMSYNC_CORE_CALL_SYNC)
+            code = reserve_blocks(handle, call.offset, call.length);
+    return code;
+}
+
+/* The start that an opening writes comes behind all commits. Its byte 16 begins the position (docs/FORMATS.md). */
+void note_position(famsync *handle)
+{
+    struct call call;
+    for (uint32_t others = 0; look_at(handle, others, &call); others++)
+        if (writes_start(handle, &call) && call.length == PAGE)
+            begin_log(handle, (uint32_t)call.bytes[16] << 24 | (uint32_t)call.bytes[17] << 16 |
+                                  (uint32_t)call.bytes[18] << 8 | call.bytes[19]);
+}
+
 bool ends_with_sync(famsync *handle)
 {
     struct call newest;
@@ -169,7 +189,7 @@ static void gather_oldest(famsync *handle)
     struct call call;
     gathered->pieces = 0;
     while (look_at(handle, gathered->pieces, &call) && call.kind != FAMSYNC_CORE_CALL_SYNC && gather(gathered, &call))
-        continue;
+        follow_log(handle, call.offset, call.length);
 }
 
 /* Adds a piece to ranges of memory that one call writes; where it lies behind the last one, that becomes longer. */

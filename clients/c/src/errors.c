@@ -38,7 +38,8 @@ int explain(int code, const char *format, ...)
 /* Whether errno has the cause. */
 static bool has_errno(int code)
 {
-    return code == FAMSYNC_SYSTEM || code == FAMSYNC_DEVICE || code == FAMSYNC_BROKEN || code == FAMSYNC_UNMARKED;
+    return code == FAMSYNC_SYSTEM || code == FAMSYNC_DEVICE || code == FAMSYNC_BROKEN || code == FAMSYNC_UNMARKED ||
+           code == FAMSYNC_NOSPACE;
 }
 
 /* What was explained, or else the words for the code, with those for errno; for FAMSYNC_SYSTEM these alone. */

@@ -197,13 +197,14 @@ static int set_size(const struct made *made, int file)
     return errno == 0 ? FAMSYNC_OK : FAMSYNC_SYSTEM;
 }
 
-/* Commit 1 comes at position 0 of the log, in epoch 1. This is the first start, in block 2. */
+/* Commit 1 comes at position 0 of the log, in epoch 1. This is the first start, in block 2. The selector before it and
+   the other start behind it are zeros. They are written all the same, so that an opening needs no block of the disk. */
 int write_first_start(int file)
 {
-    unsigned char start[PAGE] = {0};
-    put_number(start, 8, 1);
-    put_number(start + 8, 8, 1);
-    return write_whole(file, start, PAGE, 2 * PAGE);
+    unsigned char blocks[3 * PAGE] = {0};
+    put_number(blocks + PAGE, 8, 1);
+    put_number(blocks + PAGE + 8, 8, 1);
+    return write_whole(file, blocks, sizeof blocks, PAGE);
 }
 
 /* The super block comes last, after a sync. */

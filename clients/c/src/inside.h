@@ -47,6 +47,7 @@ struct volume {
     char *place;      /* the file's path, for messages; if it is a link, the path of its target */
     bool readonly;    /* the file is open only for reading, and other sessions may read it, too */
     uint64_t bytes;   /* the file's length */
+    uint64_t on_disk; /* how many bytes are allocated for it on the disk */
 };
 
 /* The pages from `begin` on, up to but not including `end`. */
@@ -123,6 +124,30 @@ struct log {
     bool start_written; /* a start behind commits that are home is written, but not selected yet */
 };
 
+/* Pages of a file that the next commit writes, by their home blocks from `begin` on, up to but not including `end`. */
+struct claim {
+    unsigned file;
+    uint64_t begin, end;
+};
+
+enum seen { UNKNOWN, YES, NO };
+
+/* The blocks of the volume that are allocated on the disk (space.c). Positions in a log go on counting where the log
+   begins again. */
+struct space {
+    uint64_t *known;     /* a bit for each block: it is allocated, or claimed for the next commit */
+    size_t room;         /* the size of `known` in bytes */
+    struct claim *claim; /* claimed pages, whose home blocks the next commit allocates */
+    size_t claims, most; /* the number of claims, and of those that `claim` has room for */
+    enum seen sees;      /* whether the system tells holes of the volume's file from data */
+    bool cannot;         /* the file system can't allocate blocks ahead of writes */
+    uint64_t first;      /* with a log: the position of this session's first commit */
+    uint64_t next, end;  /* with a log: the next commit's position; the end of the blocks that are allocated */
+    unsigned journals;   /* without a log: the number of journals, of their slots, and of the slots that are
+                            allocated in each journal */
+    uint32_t slots, records;
+};
+
 /* A backup that is being made (backup.c). */
 struct backup;
 
@@ -176,6 +201,7 @@ struct famsync {
     struct log log;
     struct gathered gathered;
     struct counts counts;
+    struct space space;
     struct backup *backup; /* the backup that is being made; null if there is none */
     unsigned char *read;   /* room for MOST_READ blocks */
     struct reading reading[READS_KEPT];
@@ -323,6 +349,11 @@ int drain_many(famsync *handle);
    a start of the log. */
 bool ends_with_sync(famsync *handle);
 bool ends_with_start(famsync *handle);
+/* Allocates all blocks that the waiting calls write. FAMSYNC_NOSPACE: the disk is full; no call is made. */
+int reserve_calls(famsync *handle);
+/* With a log: notes the position at which the next commit begins. The caller has just opened the volume, and the calls
+   of that still wait. */
+void note_position(famsync *handle);
 /* Whether the opening of a volume has recorded writes of commits to their home blocks. With a log
    every opening also writes a start, which doesn't count here. */
 bool carries_out_commits(famsync *handle);
@@ -341,6 +372,21 @@ int read_blocks(famsync *handle, uint32_t block, uint32_t count, unsigned char *
 /* Supplies the block that the core wants, and the blocks after it: `pages` blocks in all, but at
    most MOST_READ. */
 int supply(famsync *handle, uint32_t block, uint64_t pages);
+
+/* space.c: allocates blocks on the disk, so that no later write finds the disk full. */
+int begin_space(famsync *handle);
+void end_space(struct space *space);
+/* `claim_pages` notes that the next commit writes these pages of a file. `forget_claims` forgets that: nothing waits
+   for a commit any more. */
+int claim_pages(famsync *handle, unsigned file, uint64_t page, uint64_t pages);
+void forget_claims(famsync *handle);
+/* Allocates all blocks that the next commit will write. FAMSYNC_NOSPACE: the disk is full; errno has the cause. */
+int reserve_space(famsync *handle);
+/* Allocates the blocks of a write. */
+int reserve_blocks(famsync *handle, uint64_t offset, uint64_t length);
+/* With a log: the next commit begins at this position. `follow_log` finds it out from each write that is made. */
+void begin_log(famsync *handle, uint32_t position);
+void follow_log(famsync *handle, uint64_t offset, uint64_t length);
 
 /* ranges.c: read and write a range of a file through the core's pages. The caller has the turn, and
    the range is within the file. `*done` is the number of bytes that were read or written, even

@@ -88,9 +88,9 @@ static int write_part(famsync *handle, unsigned file, struct part part, const un
 
 int write_range(famsync *handle, unsigned file, uint64_t offset, const unsigned char *bytes, size_t count, size_t *done)
 {
-    int code = FAMSYNC_OK;
+    int code = claim_pages(handle, file, offset / PAGE, pages_of(offset, count));
     *done = 0;
-    while (*done < count) {
+    while (code == FAMSYNC_OK && *done < count) {
         struct part part = first_part(offset + *done, count - *done);
         code = write_part(handle, file, part, bytes + *done);
         if (code != FAMSYNC_OK)
@@ -241,12 +241,23 @@ static int refused_length(famsync *handle, const struct file *file, uint64_t len
                    (long long)famsync_core_staged(handle->core, &handle->core.at), handle->frames);
 }
 
+/* Claims the pages of a file that is to become longer, unless they are more than it or a commit can have. */
+static int claim_growth(famsync *handle, unsigned number, uint64_t before, uint64_t length)
+{
+    uint64_t first = before / PAGE, end = length / PAGE + (length % PAGE != 0);
+    if (end > handle->file[number].pages || end <= first || end - first > (uint64_t)handle->frames + 1)
+        return FAMSYNC_OK;
+    return claim_pages(handle, number, first, end - first);
+}
+
 /* Of a file that becomes longer the core has the page in which it ended, and those behind it. */
 int set_length(famsync *handle, unsigned number, uint64_t length)
 {
     struct file *file = &handle->file[number];
     uint64_t before = file->length;
-    int code = ask_length(handle, number, length);
+    int code = length > before ? claim_growth(handle, number, before, length) : FAMSYNC_OK;
+    if (code == FAMSYNC_OK)
+        code = ask_length(handle, number, length);
     if (code != FAMSYNC_OK)
         return refused_length(handle, file, length, code);
     if (length == before)

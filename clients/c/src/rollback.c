@@ -169,7 +169,9 @@ static int undo(famsync *handle, struct other *other)
 /* Makes what the other core recorded as it opened the volume. */
 static int end_taking_over(famsync *handle, int code)
 {
-    int drained = drain(handle);
+    int drained;
+    note_position(handle);
+    drained = drain(handle);
     note_log(handle);
     return drained != FAMSYNC_OK ? drained : code;
 }

@@ -250,6 +250,7 @@ static int open_locked(struct volume *volume)
             return code;
         if (right) {
             volume->bytes = (uint64_t)found.st_size;
+            volume->on_disk = (uint64_t)found.st_blocks * 512;
             return !S_ISREG(found.st_mode) ? FAMSYNC_NOTREGULAR : found.st_nlink > 1 ? FAMSYNC_NAMES : FAMSYNC_OK;
         }
         unlock_file(volume);

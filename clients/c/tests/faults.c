@@ -155,6 +155,11 @@ ssize_t pwrite(int file, const void *bytes, size_t count, off_t at)
     return outcome == FAILED ? -1 : NEXT(pwrite)(file, bytes, outcome == SHORT ? (count + 2) / 3 : count, at);
 }
 
+int fallocate(int file, int mode, off_t at, off_t length)
+{
+    return FAIL_OR(fallocate, NEXT(fallocate)(file, mode, at, length));
+}
+
 int ftruncate(int file, off_t length)
 {
     return FAIL_OR(ftruncate, NEXT(ftruncate)(file, length));

@@ -33,7 +33,7 @@ static int report(const char *call, int code)
 {
     if (code == FAMSYNC_OK)
         return 0;
-    if (code == FAMSYNC_DEVICE || code == FAMSYNC_SYSTEM)
+    if (code == FAMSYNC_DEVICE || code == FAMSYNC_SYSTEM || code == FAMSYNC_NOSPACE)
         printf("%s %d %d\n", call, code, errno);
     else
         printf("%s %d\n", call, code);

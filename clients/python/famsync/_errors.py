@@ -186,6 +186,13 @@ class Address(Error):
     code = -42
 
 
+class NoSpace(Error, OSError):
+    """The disk is full, or a quota is used up; `errno` has the cause. Nothing changed: `commit` again once the disk has
+    room, or roll back."""
+
+    code = -46
+
+
 class Tracking(Error):
     """The system can't track stores to plain memory in the requested way."""
 

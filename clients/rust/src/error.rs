@@ -65,6 +65,9 @@ codes! {
     Shape = -18,
     /// More pages were written, or added to a file, than one commit can have.
     NoFrame = -27,
+    /// The disk is full, or a quota is used up; [`Error::system`] has the cause. Nothing changed: the same commit
+    /// succeeds once the disk has room.
+    NoSpace = -46,
     /// A read, a write or a sync of the volume failed; [`Error::system`] has the cause.
     Device = -28,
     /// A write or a sync failed earlier, so the session is over; [`Error::system`] has the cause.
@@ -98,7 +101,7 @@ codes! {
 impl Code {
     /// Whether the system has a part in it, so that `errno` says how.
     fn is_of_the_system(self) -> bool {
-        matches!(self, Code::System | Code::Device | Code::Broken | Code::Unmarked)
+        matches!(self, Code::System | Code::NoSpace | Code::Device | Code::Broken | Code::Unmarked)
     }
 }
 
@@ -138,8 +141,8 @@ impl Error {
         self.code
     }
 
-    /// The system's error, for [`Code::System`], [`Code::Device`], [`Code::Broken`] and [`Code::Unmarked`]. It
-    /// distinguishes a full disk, a broken disk and a lack of memory.
+    /// The system's error, for [`Code::System`], [`Code::NoSpace`], [`Code::Device`], [`Code::Broken`] and
+    /// [`Code::Unmarked`]. It distinguishes a full disk, a broken disk and a lack of memory.
     pub fn system(&self) -> Option<&io::Error> {
         self.system.as_ref()
     }

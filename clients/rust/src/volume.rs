@@ -148,8 +148,8 @@ impl Volume {
     ///
     /// Threads that call it during a commit share the next one. If it is refused, all changes still wait, and the next
     /// call commits them. [`Code::NoFrame`]: the changed pages are more than one commit can have, and no later call can
-    /// commit them either. [`Code::Device`]: a write or a sync failed, and the session is over. Each later call returns
-    /// [`Code::Broken`].
+    /// commit them either. [`Code::NoSpace`]: the disk is full. [`Code::Device`]: a write or a sync failed, and the
+    /// session is over. Each later call returns [`Code::Broken`].
     ///
     /// No slice of [`memory_mut`](Volume::memory_mut) may live meanwhile, which the compiler checks:
     ///
