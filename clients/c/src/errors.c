@@ -15,13 +15,7 @@ struct failure {
     char text[ROOM];
 };
 
-/* With glibc each thread has this memory from its beginning. In a library that was loaded by dlopen it would else be
-   allocated at its first use, and a process that has no memory then would end. Other C libraries never do that. */
-#ifdef __GLIBC__
-static _Thread_local __attribute__((tls_model("initial-exec"))) struct failure last;
-#else
-static _Thread_local struct failure last;
-#endif
+PER_THREAD struct failure last;
 
 int explain(int code, const char *format, ...)
 {

@@ -15,22 +15,24 @@ static unsigned open_in(unsigned state)
     return state & ~(HELD_OFF | ABANDONED);
 }
 
-/* A volume of which a thread holds a group. Each thread has a list of these. */
+/* A volume of which a thread holds a group. */
 struct held {
     struct held *next;
     famsync *handle; /* null if this entry is free */
     uint64_t depth;  /* how many begins wait for their end */
 };
 
-/* The list of a thread is the value of a key: as a variable of each thread it would cost a call, or room that a library
-   may not get when it is loaded late. And the key tells when a thread ends. */
+/* Each thread has a list of these: the first entry, and more if it has held groups of several volumes at once. */
+PER_THREAD struct held first;
+
+/* The value of this key tells when a thread ends that has begun a group. */
 static pthread_key_t key;
 static atomic_bool has_key;
 
 /* This thread's entry of a volume; a null pointer if it holds no group of that. */
 static struct held *entry_of(const famsync *handle)
 {
-    struct held *entry = atomic_load(&has_key) ? pthread_getspecific(key) : NULL;
+    struct held *entry = &first;
     while (entry && entry->handle != handle)
         entry = entry->next;
     return entry;
@@ -54,8 +56,10 @@ static void end_thread(void *list)
         next = entry->next;
         if (entry->handle && !is_forked(entry->handle))
             abandon(entry->handle);
-        free(entry);
+        if (entry != &first)
+            free(entry);
     }
+    first = (struct held){0};
 }
 
 /* A process that was forked meanwhile finds the lock of the table free. */
@@ -68,20 +72,29 @@ static bool make_key(void)
     return atomic_load(&has_key);
 }
 
+/* Whether the library learns when this thread ends. */
+static bool is_noted(void)
+{
+    if (!atomic_load(&has_key) && !make_key())
+        return false;
+    return pthread_getspecific(key) || pthread_setspecific(key, &first) == 0;
+}
+
 /* A free entry of this thread; a null pointer if the system refuses memory, or another key. */
 static struct held *free_entry(void)
 {
-    struct held *entry = entry_of(NULL);
-    if (entry || (!atomic_load(&has_key) && !make_key()))
+    struct held *entry;
+    if (!is_noted())
+        return NULL;
+    entry = entry_of(NULL);
+    if (entry)
         return entry;
     entry = calloc(1, sizeof *entry);
     if (!entry)
         return NULL;
-    entry->next = pthread_getspecific(key);
-    if (pthread_setspecific(key, entry) == 0)
-        return entry;
-    free(entry);
-    return NULL;
+    entry->next = first.next;
+    first.next = entry;
+    return entry;
 }
 
 /* Counts another open group, unless new ones are held off. */

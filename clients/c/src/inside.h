@@ -28,6 +28,15 @@
    starts of the log. */
 #define FIRST_OF_LOG 4u
 
+/* Begins the definition of a variable that each thread has. With glibc each thread has its memory
+   from its beginning. In a library that was loaded by dlopen it would else be allocated at its
+   first use, and a process that has no memory then would end. Other C libraries never do that. */
+#ifdef __GLIBC__
+#define PER_THREAD static _Thread_local __attribute__((tls_model("initial-exec")))
+#else
+#define PER_THREAD static _Thread_local
+#endif
+
 /* A buffer for a line about a fault; `text` may be a null pointer. */
 struct message {
     char *text;

@@ -201,8 +201,8 @@ static bool has_both(const int64_t *found, int64_t number)
 static void commit_waits(void)
 {
     begin_new(4, (struct famsync_options){0});
-    pthread_t first = begun_half(1), second, commits = begun_waiting(commit);
-    second = begun(store_both, (void *)2);
+    pthread_t first = begun_half(1), next, commits = begun_waiting(commit);
+    next = begun(store_both, (void *)2);
     usleep(30000);
     WANT(sem_trywait(&halfway) != 0 && !atomic_load(&done));
     sem_post(&go);
@@ -212,7 +212,7 @@ static void commit_waits(void)
     WANT(TOGGLE(words, 0) == 2 && has_both(committed(), 1));
     commits = begun_waiting(commit);
     sem_post(&go);
-    WANT_CODE(ended(second), FAMSYNC_OK);
+    WANT_CODE(ended(next), FAMSYNC_OK);
     WANT_CODE(ended(commits), FAMSYNC_OK);
     WANT(has_both(committed(), 2));
     end_session();
@@ -355,9 +355,17 @@ static void refused(void)
     WANT_CODE(famsync_close(handle), FAMSYNC_OK);
 }
 
+static famsync *second;
+
+static void *begin_both(void *argument)
+{
+    (void)argument;
+    WANT_CODE(famsync_begin(handle), FAMSYNC_OK);
+    return (void *)(intptr_t)famsync_begin(second);
+}
+
 static void several_volumes(void)
 {
-    famsync *second;
     make_volume_of(4, 20, "a=32768 b=4096");
     WANT(rename(volume, other) == 0);
     begin_new(4, (struct famsync_options){0});
@@ -376,6 +384,9 @@ static void several_volumes(void)
         WANT_CODE(famsync_end(two), FAMSYNC_OK);
         WANT_CODE(famsync_msync(two, NULL), FAMSYNC_OK);
     }
+    WANT_CODE(ended(begun(begin_both, NULL)), FAMSYNC_OK);
+    WANT_CODE(famsync_msync(handle, NULL), FAMSYNC_TORN);
+    WANT_CODE(famsync_msync(second, NULL), FAMSYNC_TORN);
     WANT_CODE(famsync_close(second), FAMSYNC_OK);
     end_session();
 }
