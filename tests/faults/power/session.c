@@ -8,12 +8,14 @@
  *
  * What a volume contains is printed as a digest of the lengths and the bytes of all files. `work` computes it from a
  * copy of its own, which it keeps beside the library. It appends to the file that LOG names `C NUMBER DIGEST` before a
- * commit and `A NUMBER` after its acknowledgement. The preloaded library `record.c` appends the calls of the system
- * there.
+ * commit and `A NUMBER` after its acknowledgement, or `F NUMBER` if the disk was full. Then the commit is made again,
+ * or rolled back, or its changes wait for the next one. The preloaded library `record.c` appends the calls of the
+ * system there.
  */
 #include "test.h"
 
 #include <inttypes.h>
+#include <stdatomic.h>
 
 #define FILES_MOST 4
 
@@ -138,34 +140,89 @@ static void set_length(famsync *handle, struct model *model, unsigned file)
     model->length[file] = length;
 }
 
-static void commit(famsync *handle, const struct model *model, uint64_t number)
+/* Whether the disk has no room for further blocks of the volume. */
+static atomic_bool is_full;
+
+int fallocate(int file, int mode, off_t offset, off_t length)
+{
+    if (!atomic_load(&is_full))
+        return (int)syscall(SYS_fallocate, file, mode, offset, length);
+    errno = ENOSPC;
+    return -1;
+}
+
+static void append_number(char kind, uint64_t number)
+{
+    char line[64];
+    snprintf(line, sizeof line, "%c %" PRIu64 "\n", kind, number);
+    append(line);
+}
+
+/* Commits. Whether the commit was made: the disk may be full. */
+static bool commit(famsync *handle, const struct model *model, uint64_t number, bool full)
 {
     char line[64];
     snprintf(line, sizeof line, "C %" PRIu64 " %016" PRIx64 "\n", number, digest_of_model(model));
     append(line);
-    WANT_CODE(famsync_msync(handle, NULL), FAMSYNC_OK);
-    snprintf(line, sizeof line, "A %" PRIu64 "\n", number);
-    append(line);
+    atomic_store(&is_full, full);
+    int code = famsync_msync(handle, NULL);
+    atomic_store(&is_full, false);
+    WANT(code == FAMSYNC_OK || (full && code == FAMSYNC_NOSPACE));
+    append_number(code == FAMSYNC_OK ? 'A' : 'F', number);
+    return code == FAMSYNC_OK;
+}
+
+static void copy_model(struct model *to, const struct model *from)
+{
+    for (unsigned file = 0; file < from->count; file++) {
+        to->length[file] = from->length[file];
+        memcpy(to->bytes[file], from->bytes[file], from->capacity[file]);
+    }
+}
+
+/* After a commit that found the disk full: makes it again, or undoes its changes, or lets them wait. Those of plain
+   memory can't wait, since it is closed. */
+static void after_refusal(famsync *handle, struct model *model, struct model *committed, uint64_t number, bool mapped)
+{
+    uint64_t choice = below(3);
+    if (choice == 0) {
+        WANT_CODE(famsync_rollback(handle), FAMSYNC_OK);
+        copy_model(model, committed);
+    } else if (choice == 1 || mapped) {
+        WANT(commit(handle, model, number, false));
+        copy_model(committed, model);
+    }
+}
+
+/* Changes a file, and commits; every fourth time the disk is full. */
+static void one_round(famsync *handle, struct model *model, struct model *committed, uint64_t number, uint64_t most)
+{
+    unsigned file = (unsigned)below(model->count);
+    famsync_memory *memory = model->length[file] && below(2) ? memory_of(handle, file) : NULL;
+    if (model->length[file])
+        store_to_file(handle, model, file, memory, most);
+    if (commit(handle, model, number, below(4) == 0))
+        copy_model(committed, model);
+    else
+        after_refusal(handle, model, committed, number, memory != NULL);
+    if (memory)
+        WANT_CODE(famsync_memory_close(memory), FAMSYNC_OK);
 }
 
 static void work(uint64_t commits, uint64_t most, const uint64_t *capacities, bool resizes)
 {
     struct famsync_options options = {.foreground = (int)below(2)};
     famsync *handle = opened_with(options);
-    struct model model = {.count = famsync_files(handle)};
-    for (unsigned file = 0; file < model.count; file++)
+    struct model model = {.count = famsync_files(handle)}, committed = model;
+    for (unsigned file = 0; file < model.count; file++) {
         begin_file(handle, &model, file, capacities[file]);
-    commit(handle, &model, 0);
+        begin_file(handle, &committed, file, capacities[file]);
+    }
+    WANT(commit(handle, &model, 0, false));
     for (uint64_t number = 1; number <= commits; number++) {
-        unsigned file = (unsigned)below(model.count);
         if (resizes && below(3) == 0)
             set_length(handle, &model, (unsigned)below(model.count));
-        famsync_memory *memory = model.length[file] && below(2) ? memory_of(handle, file) : NULL;
-        if (model.length[file])
-            store_to_file(handle, &model, file, memory, most);
-        commit(handle, &model, number);
-        if (memory)
-            WANT_CODE(famsync_memory_close(memory), FAMSYNC_OK);
+        one_round(handle, &model, &committed, number, most);
         if (below(8) == 0)
             usleep(15000); /* the library's thread writes out */
     }
@@ -195,7 +252,7 @@ static void find(const char *path)
 int main(int count, char **words)
 {
     if (count == 6 && strcmp(words[2], "make") == 0) {
-        make_volume_of((unsigned)atoi(words[3]), (unsigned)atoi(words[4]), words[5]);
+        make_hole_of((unsigned)atoi(words[3]), (unsigned)atoi(words[4]), words[5]);
         char command[300];
         snprintf(command, sizeof command, "mv '%s' '%s'", volume, words[1]);
         return system(command) != 0;
