@@ -459,8 +459,9 @@ int famsync_volume_info(famsync *handle, struct famsync_volume_info *info);
 
 /* Makes a backup: a volume with all changes up to the last commit acknowledged before the backup
    began. Opening the backup needs no recovery. The call empties the file that `descriptor` refers
-   to, and writes the backup to this file. Blocks of zeros become holes. When the call succeeds, the
-   backup is synced. If you created the file for the backup, sync its folder, too.
+   to, and writes the backup to this file. Blocks of zeros become holes. In layout 6 the backup has a
+   new random key. When the call succeeds, the backup is synced. If you created the file for the
+   backup, sync its folder, too.
 
    Other threads may use the handle during the backup, even for famsync_msync. Until the call
    returns, the library locks the backup's file like a volume's file.

@@ -4,7 +4,7 @@
    some at a time, and other calls come in between. Whatever is to overwrite a home block that isn't copied yet has its
    old bytes copied before (`save_for_backup`). The super block comes last, after a sync: a file that lacks a part of
    its backup is no volume. What is zeros, as the closed journals or an empty log, is left as a hole. A log begins again
-   with the start of a new volume. */
+   with the start of a new volume, and in layout 6 with a new key. */
 #include "inside.h"
 
 #include <errno.h>
@@ -172,6 +172,8 @@ static int begin(famsync *handle, struct backup *backup)
         code = take_room(handle, backup);
     if (code == FAMSYNC_OK)
         code = read_blocks(handle, 0, 1, backup->super);
+    if (code == FAMSYNC_OK)
+        code = change_key(backup->super);
     if (code != FAMSYNC_OK)
         return code;
     backup->next = handle->head - 1;

@@ -24,6 +24,11 @@
 #define FIRST_WITH_LOG 5u
 #define LAST_LAYOUT 6u
 
+/* Where the super block has the layout's digit, and the key. */
+#define LAYOUT_AT 7u
+#define KEY_AT 24u
+#define KEY_BYTES 8
+
 /* The most blocks of a log, and the most records of a commit in it. */
 #define MOST_LOG (1u << 24)
 #define MOST_RECORDS 65535u
@@ -170,12 +175,12 @@ static void lay_out(struct made *made)
     /* With a log the table has the blocks of a volume that has one slot in place of the log. */
     uint64_t home = has_log(plan) ? FIRST_OF_LOG : made->head;
     memcpy(made->super, "FAMSYNC", 7);
-    made->super[7] = (unsigned char)('0' + plan->layout);
+    made->super[LAYOUT_AT] = (unsigned char)('0' + plan->layout);
     put_number(made->super + 8, 4, plan->files);
     put_number(made->super + 12, 4, has_log(plan) ? plan->log : plan->slots);
     put_number(made->super + 16, 4, made->blocks);
     put_number(made->super + 20, 4, has_log(plan) ? FIRST_OF_LOG : 0);
-    put_number(made->super + 24, 8, plan->key);
+    put_number(made->super + KEY_AT, KEY_BYTES, plan->key);
     for (unsigned i = 0; i < plan->files; i++) {
         const struct famsync_new_file *file = &plan->file[i];
         unsigned char *row = made->super + 32 + 48 * (size_t)i;
@@ -392,16 +397,25 @@ static bool take_plan(const struct famsync_plan *given, struct famsync_plan *pla
     return true;
 }
 
-/* Draws the key of a volume of layout 6, if none is given. */
-static int draw_key(struct famsync_plan *plan)
+static int draw_key(void *key)
 {
     ssize_t drawn;
-    if (plan->layout != LAST_LAYOUT || plan->key != 0)
-        return FAMSYNC_OK;
     do
-        drawn = getrandom(&plan->key, sizeof plan->key, 0);
+        drawn = getrandom(key, KEY_BYTES, 0);
     while (drawn < 0 && errno == EINTR);
-    return drawn == (ssize_t)sizeof plan->key ? FAMSYNC_OK : FAMSYNC_SYSTEM;
+    return drawn == KEY_BYTES ? FAMSYNC_OK : FAMSYNC_SYSTEM;
+}
+
+/* A copy has its volume's epochs and numbers. So a commit in the log of one could be taken for one of the other. */
+int change_key(unsigned char *super)
+{
+    return super[LAYOUT_AT] == '0' + LAST_LAYOUT ? draw_key(super + KEY_AT) : FAMSYNC_OK;
+}
+
+/* Draws the key of a volume of layout 6, if none is given. */
+static int choose_key(struct famsync_plan *plan)
+{
+    return plan->layout == LAST_LAYOUT && plan->key == 0 ? draw_key(&plan->key) : FAMSYNC_OK;
 }
 
 static int format(const char *path, const struct famsync_plan *plan, struct made *made)
@@ -420,7 +434,7 @@ static int format(const char *path, const struct famsync_plan *plan, struct made
         say_why(&message, path, FAMSYNC_ARGUMENT);
         return FAMSYNC_ARGUMENT;
     }
-    if (draw_key(&made->plan) != FAMSYNC_OK) {
+    if (choose_key(&made->plan) != FAMSYNC_OK) {
         say(&message, "\"%s\": can't draw a key: %s", path, strerror(errno));
         return FAMSYNC_SYSTEM;
     }

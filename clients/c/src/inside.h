@@ -440,6 +440,8 @@ void end_tracking(struct tracker *tracker);
 /* format.c: writes the first start of a log to the file of a new volume. This log has no
    commits. */
 int write_first_start(int file);
+/* Draws a new key for a copy of a volume with this super block, if its layout has one. */
+int change_key(unsigned char *super);
 /* The most pages that a commit of a volume can have. */
 uint64_t most_pages(const famsync *handle);
 

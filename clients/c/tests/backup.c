@@ -100,6 +100,79 @@ static void holds_what_was_committed(unsigned layout)
     WANT_CODE(famsync_close(handle), FAMSYNC_OK);
 }
 
+/* Opens a volume, commits a byte if it isn't 0, and leaves the volume as a crash would. */
+static void leave(const char *name, char byte)
+{
+    const struct famsync_options options = {.foreground = 1};
+    int status;
+    pid_t child = fork();
+    if (child == 0) {
+        famsync *handle;
+        WANT_CODE(famsync_open(name, &options, &handle), FAMSYNC_OK);
+        if (byte != 0)
+            WANT_CODE(famsync_write(handle, 0, 0, &byte, 1, NULL), FAMSYNC_OK);
+        WANT_CODE(famsync_msync(handle, NULL), FAMSYNC_OK);
+        _exit(0);
+    }
+    WANT(waitpid(child, &status, 0) == child && status == 0);
+}
+
+static char first_byte(const char *name)
+{
+    famsync *handle;
+    char byte;
+    WANT_CODE(famsync_open(name, NULL, &handle), FAMSYNC_OK);
+    WANT_CODE(famsync_read(handle, 0, 0, &byte, 1, NULL), FAMSYNC_OK);
+    WANT_CODE(famsync_close(handle), FAMSYNC_OK);
+    return byte;
+}
+
+static uint64_t key_of(const char *name)
+{
+    int file = open(name, O_RDONLY | O_CLOEXEC);
+    uint64_t key = number_at(file, 24, 8);
+    WANT(close(file) == 0);
+    return key;
+}
+
+/* Copies blocks from one file to the other. */
+static void copy_blocks(const char *from, const char *to, uint32_t first, uint32_t count)
+{
+    unsigned char block[4096];
+    int source = open(from, O_RDONLY | O_CLOEXEC), target = open(to, O_RDWR | O_CREAT | O_CLOEXEC, 0600);
+    for (uint32_t i = first; i < first + count; i++)
+        WANT(pread(source, block, 4096, (off_t)i * 4096) == 4096 &&
+             pwrite(target, block, 4096, (off_t)i * 4096) == 4096);
+    WANT(close(source) == 0 && close(target) == 0);
+}
+
+/* Two backups of a volume have keys of their own, so no commit in the log of one is found in the other's. It would be
+   found there if the keys were the same, as it is in a mere copy of the file. */
+static void has_own_key(void)
+{
+    char name[3][120];
+    make_volume_of(6, SLOTS, "a=8192");
+    famsync *handle = opened();
+    WANT_CODE(famsync_write(handle, 0, 0, "v", 1, NULL), FAMSYNC_OK);
+    WANT_CODE(famsync_msync(handle, NULL), FAMSYNC_OK);
+    for (unsigned i = 0; i < 3; i++)
+        snprintf(name[i], sizeof name[i], "%s/own%u.img", folder, i);
+    for (unsigned i = 0; i < 2; i++) {
+        int file = open(name[i], O_RDWR | O_CREAT | O_CLOEXEC, 0600);
+        WANT_CODE(famsync_backup(handle, file), FAMSYNC_OK);
+        WANT(close(file) == 0);
+    }
+    WANT_CODE(famsync_close(handle), FAMSYNC_OK);
+    copy_blocks(name[0], name[2], 0, first_home(6, SLOTS) + 3);
+    WANT(key_of(volume) == LOG_KEY && key_of(name[0]) != LOG_KEY && key_of(name[1]) != LOG_KEY);
+    WANT(key_of(name[0]) != key_of(name[1]) && key_of(name[0]) == key_of(name[2]));
+    for (unsigned i = 0; i < 3; i++)
+        leave(name[i], i == 0 ? 'w' : 0);
+    for (unsigned i = 1; i < 3; i++)
+        copy_blocks(name[0], name[i], 4, log_blocks(SLOTS));
+    WANT(first_byte(name[0]) == 'w' && first_byte(name[1]) == 'v' && first_byte(name[2]) == 'w');
+}
+
 /* Journals and other zeros are holes. */
 static void has_holes(void)
 {
@@ -333,6 +406,7 @@ int main(int count, char **words)
         holds_what_was_committed(layout);
         one_at_a_time(layout);
     }
+    has_own_key();
     has_holes();
     refusals();
     without_room();
