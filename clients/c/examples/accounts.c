@@ -11,7 +11,7 @@ struct account {
 static void must(int code)
 {
     if (code != FAMSYNC_OK) {
-        fprintf(stderr, "accounts: %s\n", famsync_strerror(code));
+        fprintf(stderr, "accounts: %s\n", famsync_error(NULL));
         exit(1);
     }
 }

@@ -43,7 +43,7 @@ static struct heap *heap;
 static void must(int code)
 {
     if (code != FAMSYNC_OK) {
-        fprintf(stderr, "heap: %s\n", famsync_strerror(code));
+        fprintf(stderr, "heap: %s\n", famsync_error(NULL));
         exit(1);
     }
 }
