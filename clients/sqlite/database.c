@@ -308,6 +308,19 @@ static int tear(struct database *database, int code)
     return failed(database, "a commit failed", code, SQLITE_IOERR_FSYNC);
 }
 
+/* The disk is full, which ends nothing. The session undoes its part of the commit. Then SQLite rolls the transaction
+   back, and finds its pages as they were. */
+static int refuse(struct database *database)
+{
+    int code = failed(database, "a commit failed", FAMSYNC_NOSPACE, SQLITE_FULL);
+    int undone = famsync_rollback(database->volume);
+    if (undone != FAMSYNC_OK)
+        return tear(database, undone);
+    drop_waiting(database);
+    database->size = database->kept;
+    return code;
+}
+
 static int sync_database(sqlite3_file *file, int flags)
 {
     struct database *database = (struct database *)file;
@@ -323,7 +336,7 @@ static int sync_database(sqlite3_file *file, int flags)
     if (code == FAMSYNC_OK)
         code = famsync_msync(database->volume, NULL);
     if (code != FAMSYNC_OK)
-        return tear(database, code);
+        return code == FAMSYNC_NOSPACE ? refuse(database) : tear(database, code);
     drop_waiting(database);
     database->kept = database->size;
     database->stored = size;

@@ -211,6 +211,43 @@ static void refuses_a_large_database(void)
     end();
 }
 
+/* Whether the disk has no room for further blocks of a volume. */
+static bool is_full;
+
+int fallocate(int file, int mode, off_t offset, off_t length)
+{
+    if (!is_full)
+        return (int)syscall(SYS_fallocate, file, mode, offset, length);
+    errno = ENOSPC;
+    return -1;
+}
+
+/* A full disk refuses transactions, and ends nothing. */
+static void goes_on_after_a_full_disk(unsigned layout, const char *journal)
+{
+    sqlite3_vfs *vfs = sqlite3_vfs_find("famsync");
+    char said[300];
+    fresh(layout, SLOTS, "other=4096 db=245760");
+    make_hole_of(layout, SLOTS, "other=4096 db=245760");
+    WANT(open_database(path, &database) == SQLITE_OK);
+    must(database, journal);
+    must(database, "CREATE TABLE row (id INTEGER PRIMARY KEY, bytes BLOB)");
+    WANT(store_rows(1, 5) == SQLITE_OK && have("x", 5));
+    for (int round = 0; round < 3; round++) {
+        is_full = true;
+        WANT(store_rows(6, 8) == SQLITE_FULL && sqlite3_get_autocommit(database));
+        WANT(vfs->xGetLastError(vfs, sizeof said, said) == ENOSPC && strstr(said, "the disk is full"));
+        WANT(have("x", 5));
+        must(database, "BEGIN; DELETE FROM row WHERE id = 2; INSERT INTO row SELECT id + 20, bytes FROM row");
+        WANT(run(database, "COMMIT") == SQLITE_FULL && sqlite3_get_autocommit(database) && have("x", 5));
+        is_full = false;
+    }
+    WANT(store_rows(6, 8) == SQLITE_OK && have("x", 13));
+    end();
+    WANT(open_database(path, &database) == SQLITE_OK && have("x", 13));
+    end();
+}
+
 static void answers_pragmas(void)
 {
     static const char *const taken[][2] = {
@@ -279,6 +316,8 @@ int main(int count, char **words)
         refuses_large_transactions(layout, "PRAGMA cache_size=2000");
         refuses_large_transactions(layout, "PRAGMA cache_size=5");
         deletes_a_large_table(layout);
+        goes_on_after_a_full_disk(layout, "PRAGMA journal_mode=MEMORY");
+        goes_on_after_a_full_disk(layout, "PRAGMA journal_mode=DELETE; PRAGMA cache_size=5");
     }
     takes_large_transactions();
     refuses_a_large_database();
