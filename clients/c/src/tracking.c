@@ -46,7 +46,9 @@ int begin_tracking(struct tracker *tracker)
 {
     tracker->faults = open_faults();
     tracker->pages = tracker->faults < 0 ? -1 : open_above_streams(AT_FDCWD, "/proc/self/pagemap", O_RDONLY);
-    return tracker->pages >= 0 ? FAMSYNC_OK : FAMSYNC_TRACKING;
+    return tracker->pages >= 0
+               ? FAMSYNC_OK
+               : explain(FAMSYNC_TRACKING, "%s: %s", famsync_strerror(FAMSYNC_TRACKING), strerror(errno));
 }
 
 void end_tracking(struct tracker *tracker)

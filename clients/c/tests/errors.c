@@ -2,6 +2,7 @@
 #include "test.h"
 
 #include <stdatomic.h>
+#include <sys/ioctl.h>
 #include <sys/uio.h>
 
 #define SLOTS 8u
@@ -28,7 +29,24 @@ ssize_t pwritev(int file, const struct iovec *range, int count, off_t offset)
     return syscall(SYS_pwritev, file, range, count, offset, 0);
 }
 
+/* The system tracks no stores. */
+int ioctl(int file, unsigned long request, ...)
+{
+    (void)file;
+    (void)request;
+    errno = ENOTTY;
+    return -1;
+}
+
 static famsync *handle;
+
+/* Whether the text begins with a call, and ends with errno's text. */
+static bool names(const famsync *of, const char *call, int error)
+{
+    const char *text = famsync_error(of), *words = strerror(error);
+    return strncmp(text, call, strlen(call)) == 0 && strlen(text) > strlen(words) &&
+           strcmp(text + strlen(text) - strlen(words), words) == 0;
+}
 
 static void want_text(const famsync *of, const char *text, int line)
 {
@@ -82,6 +100,12 @@ static void openings(void)
     WANT(errno == EIO && strstr(message, ": Input/output error") && strstr(message, volume));
     WANT(strstr(famsync_error(NULL), ": Input/output error"));
     reads_fail = false;
+    options.tracking = FAMSYNC_TRACK_KERNEL;
+    options.size = sizeof options;
+    WANT_CODE(famsync_open(volume, &options, &second), FAMSYNC_TRACKING);
+    WANT(errno != 0 && names(NULL, "famsync_open: the system can't track stores", errno));
+    WANT(strstr(message, strerror(errno)) && strstr(message, "can't track stores"));
+    options.tracking = FAMSYNC_TRACK_SIGNALS;
     options.frames = 100;
     WANT_TEXT(famsync_open(volume, &options, &second), FAMSYNC_SHAPE,
               "famsync_open: the option `frames` is 100; a commit of this volume can have at most " FRAMES " pages");
@@ -245,14 +269,6 @@ static void threads(void)
         WANT(pthread_join(thread[i], NULL) == 0);
     want_text(handle, "famsync_setlength: the volume has no file \"x\"", __LINE__);
     WANT_CODE(famsync_memory_close(memory), FAMSYNC_OK);
-}
-
-/* Whether the text begins with a call, and ends with errno's text. */
-static bool names(const famsync *of, const char *call, int error)
-{
-    const char *text = famsync_error(of), *words = strerror(error);
-    return strncmp(text, call, strlen(call)) == 0 && strlen(text) > strlen(words) &&
-           strcmp(text + strlen(text) - strlen(words), words) == 0;
 }
 
 /* The session goes on after a failed read, and is over after a failed write. Then the handle is freed, and the text
