@@ -409,10 +409,10 @@ const char *famsync_strerror(int code);
 
 /* Returns a text about the calling thread's last failed call, for instance that one commit can have
    at most 1020 pages, and this commit has 1200. The text begins with the name of the call. Returns
-   an empty string if no call of this thread failed, or if the last failed call took another handle,
-   no handle, or memory of another handle. A null pointer as `handle` means any call. After
-   famsync_close has freed a handle, the thread may still pass this handle to famsync_error. The
-   text is valid until the thread's next failed call. */
+   an empty string if no call of this thread failed, or if the last failed call didn't take `handle`
+   or plain memory of it. A null pointer as `handle` means any call. After famsync_close has freed a
+   handle, the thread may still pass this handle to famsync_error. The text is valid until the
+   thread's next failed call. */
 const char *famsync_error(const famsync *handle);
 
 /* Statistics of a session. Set `size` to the size of this structure. FAMSYNC_ARGUMENT: `size` is
