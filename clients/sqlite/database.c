@@ -316,8 +316,7 @@ static int refuse(struct database *database)
     int undone = famsync_rollback(database->volume);
     if (undone != FAMSYNC_OK)
         return tear(database, undone);
-    drop_waiting(database);
-    database->size = database->kept;
+    end_transaction(database);
     return code;
 }
 
