@@ -192,6 +192,16 @@ static void files(void)
     WANT_CODE(famsync_rollback(handle), FAMSYNC_OK);
 }
 
+/* A name that is too long for any file is cut off. */
+static void long_name(void)
+{
+    static char name[5000];
+    memset(name, 'x', sizeof name - 1);
+    WANT_CODE(famsync_setlength(handle, name, 1), FAMSYNC_NOFILE);
+    WANT(strstr(famsync_error(handle), "famsync_setlength: the volume has no file \"xxx") &&
+         strlen(famsync_error(handle)) < 200);
+}
+
 static unsigned char bytes[131072];
 
 /* More pages than a commit has: both numbers are in the text. */
@@ -314,6 +324,7 @@ int main(void)
     want_text(handle, "", __LINE__);
     arguments();
     files();
+    long_name();
     pages();
     handles();
     threads();
