@@ -4,9 +4,10 @@
 #   make install      everything that users need; PREFIX, DESTDIR, LIBDIR, PYTHONDIR say where (packaging/install.sh)
 #   make uninstall    takes it away again; with the same PREFIX and DESTDIR
 #   make dist         out/famsync-VERSION-linux-x86_64.tar.gz, for users without the kit
+#   make proved       proves and builds the program and the core, which `make install` and `make dist` need. `.ci/run`
+#                     does so, too
 #
-# The program and the core have to be proved and built before, by `./demo` and crates/famsync_core/build, or by
-# `.ci/run`. PROGRAM and CORE name others.
+# PROGRAM and CORE name another program and core. With `unproved` for a name, this part is compiled without proofs.
 PREFIX ?= /usr/local
 OUT ?= out
 PROVED = PROGRAM='$(PROGRAM)' CORE='$(CORE)'
@@ -18,6 +19,10 @@ install:
 	@tree=$$(mktemp -d) && trap 'rm -rf "$$tree"' EXIT && $(PROVED) packaging/stage "$$tree" && \
 		"$$tree/install.sh" --prefix '$(PREFIX)' $(if $(DESTDIR),--destdir '$(DESTDIR)') \
 			$(if $(LIBDIR),--libdir '$(LIBDIR)') $(if $(PYTHONDIR),--pythondir '$(PYTHONDIR)')
+
+proved:
+	crates/famsync/build
+	crates/famsync_core/build
 
 uninstall:
 	@packaging/install.sh --uninstall --prefix '$(PREFIX)' $(if $(DESTDIR),--destdir '$(DESTDIR)')
@@ -33,4 +38,6 @@ hooks:
 layout:
 	tests/lint/layout
 
-.PHONY: all install uninstall dist hooks layout
+# `make proved install` builds first.
+.NOTPARALLEL:
+.PHONY: all install proved uninstall dist hooks layout

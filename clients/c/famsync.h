@@ -160,7 +160,8 @@ struct famsync_options {
    FAMSYNC_TRACK_KERNEL: the kernel tracks them. */
 enum famsync_tracking { FAMSYNC_TRACK_SIGNALS = 0, FAMSYNC_TRACK_KERNEL = 1 };
 
-/* Returns the version of the library that this program runs with. */
+/* Returns the version of the library that this program runs with. If the library's core wasn't
+   proved, " (core not proved)" follows. */
 const char *famsync_version(void);
 
 /* A file of a new volume. `name` has 1 to 32 characters from '!' to '~'. `length` and `capacity`

@@ -1,4 +1,5 @@
 /* Handles: how a session begins and ends, what it says of the volume, and whose turn it is. */
+#include "core.h"
 #include "inside.h"
 
 #include <errno.h>
@@ -408,7 +409,7 @@ int famsync_close(famsync *handle)
 
 const char *famsync_version(void)
 {
-    return FAMSYNC_VERSION;
+    return FAMSYNC_VERSION CORE_NOTE;
 }
 
 unsigned famsync_files(const famsync *handle)

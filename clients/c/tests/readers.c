@@ -245,7 +245,8 @@ static void sizes(void)
     WANT_CODE(famsync_open(volume, &later.options, &handle), FAMSYNC_OK);
     WANT_CODE(famsync_msync(handle, NULL), FAMSYNC_READONLY);
     WANT_CODE(famsync_close(handle), FAMSYNC_OK);
-    WANT(strcmp(famsync_version(), FAMSYNC_VERSION) == 0);
+    WANT(strcmp(famsync_version(), FAMSYNC_VERSION) == 0 ||
+         strcmp(famsync_version(), FAMSYNC_VERSION " (core not proved)") == 0);
 }
 
 int main(void)

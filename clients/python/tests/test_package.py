@@ -58,7 +58,7 @@ class Library(InAFolder):
 
 class Package(unittest.TestCase):
     def test_the_version_of_the_library(self):
-        self.assertEqual(famsync.version(), famsync.__version__)
+        self.assertEqual(famsync.version().removesuffix(" (core not proved)"), famsync.__version__)
 
     def test_one_version(self):
         with open(f"{TOP}/VERSION", encoding="ascii") as file:

@@ -137,7 +137,7 @@ fn sessions_that_only_read() {
 
 #[test]
 fn the_version() {
-    assert_eq!(famsync::version(), env!("CARGO_PKG_VERSION"));
+    assert_eq!(famsync::version().trim_end_matches(" (core not proved)"), env!("CARGO_PKG_VERSION"));
 }
 
 #[test]
