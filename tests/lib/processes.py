@@ -24,7 +24,7 @@ def want(holds, what, *seen):
 
 
 def built_program(given=None):
-    """The path of the program to test. `./demo` and `rt ci` leave it where it is looked for by default."""
+    """The path of the program to test. `crates/famsync/build` and `rt ci` make it where it is looked for by default."""
     return os.path.realpath(given or f"{TOP}/crates/famsync/out/famsync")
 
 
