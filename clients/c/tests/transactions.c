@@ -134,6 +134,26 @@ static void used_again(void)
     WANT(finds(0, 3));
 }
 
+/* A thread that holds a group can't end one. */
+static void beside_groups(void)
+{
+    uint64_t transaction;
+    make_volume_of(layout, 12, "a=8192 b=8192");
+    famsync *handle = opened();
+    transaction = begun(handle);
+    WANT_CODE(famsync_begin(handle), FAMSYNC_OK);
+    write_byte(handle, 0, 0, 1);
+    WANT_CODE(famsync_transaction_commit(handle, transaction, NULL), FAMSYNC_BUSY);
+    WANT_CODE(famsync_transaction_rollback(handle, transaction), FAMSYNC_BUSY);
+    WANT_CODE(famsync_msync(handle, NULL), FAMSYNC_BUSY);
+    WANT_CODE(famsync_end(handle), FAMSYNC_OK);
+    refused(handle);
+    write_byte(handle, 1, 0, 1);
+    WANT_CODE(famsync_transaction_commit(handle, transaction, NULL), FAMSYNC_OK);
+    WANT_CODE(famsync_close(handle), FAMSYNC_OK);
+    WANT(finds(1, 1));
+}
+
 static void refusals(void)
 {
     uint64_t transaction = 1;
@@ -237,6 +257,7 @@ int main(void)
         if (has_lengths(layout))
             failed();
         used_again();
+        beside_groups();
         refusals();
         threads();
     }
