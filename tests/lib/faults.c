@@ -9,7 +9,9 @@
  *   FAULT=from:N:ERRNO     this call fails, and all later ones
  *
  * ONLY=sync counts calls of fsync and fdatasync alone, ONLY=write writes alone, and ONLY=read reads at an offset alone,
- * which are no such calls and else aren't counted.
+ * which are no such calls and else aren't counted. ONLY=device counts syncs, and reads and writes at an offset.
+ *
+ * With SPOIL in the environment a write at an offset that fails fills its range with bytes 0xEE.
  */
 #define _GNU_SOURCE
 #include <dlfcn.h>
@@ -24,7 +26,7 @@
 #include <sys/types.h>
 #include <unistd.h>
 
-enum kind { OTHER, WRITE, SYNC, READ };
+enum kind { OTHER, WRITE, PUT, SYNC, READ };
 
 static long calls;
 
@@ -33,9 +35,11 @@ static int counts(enum kind kind)
     const char *only = getenv("ONLY");
     if (!only)
         return kind != READ;
+    if (strcmp(only, "device") == 0)
+        return kind == PUT || kind == SYNC || kind == READ;
     if (strcmp(only, "read") == 0)
         return kind == READ;
-    return strcmp(only, "sync") == 0 ? kind == SYNC : kind == WRITE;
+    return strcmp(only, "sync") == 0 ? kind == SYNC : kind == WRITE || kind == PUT;
 }
 
 /* Whether this call fails. */
@@ -79,14 +83,28 @@ void _exit(int status)
 
 #define NEXT(name) ((__typeof__(&name))dlsym(RTLD_NEXT, #name))
 
+/* A write that fails, with the error that is set. */
+static ssize_t spoil(int file, size_t count, off_t at)
+{
+    static const unsigned char spoilt[4096] = {[0 ... 4095] = 0xEE};
+    int error = errno;
+    for (size_t done = 0; getenv("SPOIL") && done < count; done += sizeof spoilt) {
+        size_t here = count - done < sizeof spoilt ? count - done : sizeof spoilt;
+        if (NEXT(pwrite)(file, spoilt, here, at + (off_t)done) != (ssize_t)here)
+            abort();
+    }
+    errno = error;
+    return -1;
+}
+
 ssize_t pwrite(int file, const void *bytes, size_t count, off_t at)
 {
-    return fails(WRITE) ? -1 : NEXT(pwrite)(file, bytes, count, at);
+    return fails(PUT) ? spoil(file, count, at) : NEXT(pwrite)(file, bytes, count, at);
 }
 
 ssize_t pwrite64(int file, const void *bytes, size_t count, off64_t at)
 {
-    return fails(WRITE) ? -1 : NEXT(pwrite64)(file, bytes, count, at);
+    return fails(PUT) ? spoil(file, count, at) : NEXT(pwrite64)(file, bytes, count, at);
 }
 
 ssize_t write(int file, const void *bytes, size_t count)
