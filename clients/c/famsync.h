@@ -293,8 +293,8 @@ int famsync_read(famsync *handle, unsigned file, uint64_t offset, void *bytes, s
    `done` may be a null pointer. The written bytes wait in memory for the next famsync_msync.
 
    FAMSYNC_EINVAL: a written byte would be past the file's end; famsync_setlength makes a file
-   longer. FAMSYNC_NOFRAME: more pages would wait than one commit can have. In both cases nothing is
-   written.
+   longer. FAMSYNC_NOFRAME: more pages would wait than one commit can have. Pages of plain memory that
+   were stored to wait, too. In both cases nothing is written.
 
    FAMSYNC_DEVICE: the library couldn't read a page of which the call writes only a part. After
    FAMSYNC_DEVICE or FAMSYNC_NOMEMORY, `*done` is the number of bytes written before the failure.

@@ -204,6 +204,7 @@ static bool open_all(famsync_memory *memory)
         if (memory->dirty[page] == CLOSED)
             memory->dirty[page] = OPENED;
     memory->open = (struct span){0, memory->pages};
+    memory->noted = memory->pages;
     return true;
 }
 
@@ -213,8 +214,7 @@ static bool make_writable(famsync_memory *memory, size_t first, size_t end)
 {
     if (mprotect(memory->at + first * memory->grain, (end - first) * memory->grain, PROT_READ | PROT_WRITE) != 0)
         return errno == ENOMEM && open_all(memory);
-    memset(memory->dirty + first, OPENED, end - first);
-    widen(&memory->open, first, end);
+    note_pages(memory, first, end, OPENED);
     return true;
 }
 
@@ -222,7 +222,7 @@ bool open_pages(famsync_memory *memory, size_t first, size_t end)
 {
     bool opened = make_writable(memory, first, end);
     if (opened)
-        memset(memory->dirty + first, STORED, end - first);
+        note_pages(memory, first, end, STORED);
     return opened;
 }
 

@@ -424,6 +424,9 @@ void stores_are_committed(famsync *handle);
 void keep_to_budget(famsync *handle);
 /* The number of pages of plain memory that were stored to and don't wait in the core yet. */
 uint64_t stored_pages(famsync *handle);
+/* Judges whether the next commit has room for a write to a range, besides all that waits for it in
+   the core and in plain memory. The range isn't empty, and is within the file. */
+int judge_range(famsync *handle, unsigned file, uint64_t offset, size_t count);
 /* memory.c: the open plain memory of a file; a null pointer if there is none. */
 famsync_memory *memory_of_file(const famsync *handle, unsigned file);
 /* mapping.c: sets the length of a file whose plain memory is open. */

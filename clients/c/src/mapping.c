@@ -278,7 +278,7 @@ static void forget_notes(famsync_memory *memory, size_t end)
 {
     if (end >= memory->pages)
         return;
-    memset(memory->dirty + end, CLOSED, memory->pages - end);
+    note_pages(memory, end, memory->pages, CLOSED);
     keep_no_more(memory, end, memory->pages);
     if (memory->open.end > end)
         memory->open.end = end;
@@ -357,6 +357,7 @@ int begin_memory_again(famsync_memory *memory, size_t length)
         return code;
     remove_pages(memory, pages, memory->pages);
     memory->open = (struct span){0, 0};
+    memory->noted = 0;
     memory->length = length;
     memory->pages = pages;
     atomic_store(&memory->handle->file[memory->file].length, length);

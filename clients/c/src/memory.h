@@ -33,6 +33,7 @@ struct famsync_memory {
     size_t kept;               /* the number of kept pages; `closing` */
     struct span keeps;         /* contains each kept page; `closing` */
     struct span open;          /* contains each page that isn't CLOSED; `closing` */
+    size_t noted;              /* the number of pages that aren't CLOSED; `closing` */
     struct span takes;         /* contains each taken page; `turn` */
     unsigned char *fresh;      /* replaces the memory in a rollback, if the file was read whole;
                                   `turn` */
@@ -86,6 +87,8 @@ void lock_pages(famsync *handle, sigset_t *blocked);
 void unlock_pages(famsync *handle, const sigset_t *blocked);
 /* If the kernel tracks stores, notes the stores that it has tracked. The caller holds `closing`. */
 void note_tracked(famsync_memory *memory);
+/* Notes pages as CLOSED, STORED or OPENED. The caller holds `closing`. */
+void note_pages(famsync_memory *memory, size_t first, size_t end, unsigned char note);
 /* The number of pages of the volume that were stored to since the last commit. The caller holds
    `closing`. */
 size_t dirty_in(const famsync_memory *memory);

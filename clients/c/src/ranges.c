@@ -114,18 +114,6 @@ int explain_no_frame(const famsync *handle, const char *what, uint64_t pages)
                    handle->frames);
 }
 
-/* Judges whether the next commit has room for the pages of a range, besides those that it has already. */
-static int judge_room(famsync *handle, unsigned file, uint64_t offset, size_t count)
-{
-    uint64_t staged = (uint64_t)famsync_core_staged(handle->core, &handle->core.at), pages = pages_of(offset, count);
-    if (pages > handle->frames)
-        return explain_no_frame(handle, "the range has", pages);
-    if (staged + pages > handle->frames)
-        pages -= staged_among(handle, file, offset / PAGE, pages);
-    return staged + pages <= handle->frames ? FAMSYNC_OK
-                                            : explain_no_frame(handle, "the next commit would have", staged + pages);
-}
-
 static int no_such_number(const famsync *handle, unsigned file)
 {
     return explain(FAMSYNC_NOFILE, "the volume has no file %u; its files are numbered from 0 to %u", file,
@@ -175,11 +163,12 @@ static int write_file(famsync *handle, unsigned file, uint64_t offset, const uns
         return FAMSYNC_OK;
     if (offset > handle->file[file].length || count > handle->file[file].length - offset)
         return past_end(&handle->file[file], offset, count);
+    code = judge_range(handle, file, offset, count);
+    if (code != FAMSYNC_OK)
+        return code;
     memory = memory_of_file(handle, file);
-    if (!memory) {
-        code = judge_room(handle, file, offset, count);
-        return code == FAMSYNC_OK ? write_range(handle, file, offset, bytes, count, done) : code;
-    }
+    if (!memory)
+        return write_range(handle, file, offset, bytes, count, done);
     code = write_memory(memory, offset, bytes, count);
     *done = code == FAMSYNC_OK ? count : 0;
     return code;

@@ -116,7 +116,7 @@ static int undo_run(famsync_memory *memory, size_t first, size_t end)
     if (madvise(memory->at + at, count, MADV_DONTNEED) != 0)
         return FAMSYNC_SYSTEM;
     keep_no_more(memory, first, end);
-    memset(memory->dirty + first, CLOSED, end - first);
+    note_pages(memory, first, end, CLOSED);
     return FAMSYNC_OK;
 }
 

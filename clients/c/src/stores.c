@@ -56,6 +56,19 @@ int for_runs(famsync_memory *memory, const unsigned char *notes, struct span spa
     return code;
 }
 
+void note_pages(famsync_memory *memory, size_t first, size_t end, unsigned char note)
+{
+    size_t before = 0;
+    for (size_t page = first; page < end; page++)
+        before += memory->dirty[page] != CLOSED;
+    memory->noted -= before;
+    memset(memory->dirty + first, note, end - first);
+    if (note == CLOSED)
+        return;
+    memory->noted += end - first;
+    widen(&memory->open, first, end);
+}
+
 /* The committed bytes of a page. */
 static const unsigned char *committed(const famsync_memory *memory, size_t page)
 {
@@ -96,6 +109,72 @@ void note_tracked(famsync_memory *memory)
 {
     if (memory->handle->is_tracked)
         (void)collect(memory);
+}
+
+/* Notes the stores that the kernel has tracked, unless a commit has room for all pages that can be stored to. That
+   takes long if many pages are in memory. */
+static void note_all_tracked(famsync *handle, uint64_t others)
+{
+    for (const famsync_memory *memory = handle->memories; memory; memory = memory->next_one)
+        others += memory->pages * (memory->grain / PAGE);
+    for (famsync_memory *memory = handle->memories; memory && others > handle->frames; memory = memory->next_one)
+        note_tracked(memory);
+}
+
+/* How many pages of a span don't wait for the next commit yet, neither in the core nor in plain memory. */
+static uint64_t new_among(famsync *handle, unsigned file, struct span span)
+{
+    const famsync_memory *memory = memory_of_file(handle, file);
+    uint64_t count = 0;
+    for (size_t page = span.begin; page < span.end; page++)
+        if (!memory || !is_stored(memory, page / (memory->grain / PAGE)))
+            count += staged_among(handle, file, page, 1) == 0;
+    return count;
+}
+
+/* The pages that wait are counted only if there may be too many of them. A page of plain memory that has no note
+   doesn't wait. */
+static int judge_span(famsync *handle, unsigned file, struct span span)
+{
+    uint64_t staged = (uint64_t)famsync_core_staged(handle->core, &handle->core.at), added = span.end - span.begin;
+    uint64_t most = staged + added, count = staged;
+    if (handle->is_tracked && new_among(handle, file, span) > 0)
+        note_all_tracked(handle, most);
+    for (const famsync_memory *memory = handle->memories; memory; memory = memory->next_one)
+        most += memory->noted * (memory->grain / PAGE);
+    if (most <= handle->frames)
+        return FAMSYNC_OK;
+    added = new_among(handle, file, span);
+    for (const famsync_memory *memory = handle->memories; memory; memory = memory->next_one)
+        count += dirty_in(memory) - staged_in(memory);
+    return added == 0 || count + added <= handle->frames
+               ? FAMSYNC_OK
+               : explain_no_frame(handle, "the next commit would have", count + added);
+}
+
+/* The pages of the volume that a write to a range stores to: all of those in the pages of plain memory. */
+static struct span span_of(const famsync *handle, unsigned file, uint64_t offset, size_t count)
+{
+    const famsync_memory *memory = memory_of_file(handle, file);
+    uint64_t grain = memory ? memory->grain : PAGE, length = handle->file[file].length;
+    uint64_t end = (offset + count - 1) / grain * grain + grain;
+    end = end < length ? end : length;
+    return (struct span){(size_t)(offset / grain * (grain / PAGE)), (size_t)((end + PAGE - 1) / PAGE)};
+}
+
+int judge_range(famsync *handle, unsigned file, uint64_t offset, size_t count)
+{
+    struct span span = span_of(handle, file, offset, count);
+    sigset_t blocked;
+    int code;
+    if (span.end - span.begin > handle->frames)
+        return explain_no_frame(handle, "the range has", span.end - span.begin);
+    if (!handle->memories)
+        return judge_span(handle, file, span);
+    lock_pages(handle, &blocked);
+    code = judge_span(handle, file, span);
+    unlock_pages(handle, &blocked);
+    return code;
 }
 
 uint64_t stored_pages(famsync *handle)
@@ -229,7 +308,7 @@ static int close_pages(famsync_memory *memory, uint64_t *pages)
         return FAMSYNC_SYSTEM;
     for (size_t page = first_noted(memory->dirty, begin, end); page < end;
          page = first_noted(memory->dirty, page + 1, end)) {
-        memory->dirty[page] = is_stored(memory, page) ? STORED : CLOSED;
+        note_pages(memory, page, page + 1, is_stored(memory, page) ? STORED : CLOSED);
         *pages += memory->dirty[page] == STORED ? pages_in(memory, page) : 0;
     }
     return FAMSYNC_OK;
@@ -261,7 +340,7 @@ static int copy_run(famsync_memory *memory, size_t first, size_t end)
 {
     memcpy(memory->copy + first * memory->grain, memory->at + first * memory->grain, (end - first) * memory->grain);
     memset(memory->taken + first, STORED, end - first);
-    memset(memory->dirty + first, CLOSED, end - first);
+    note_pages(memory, first, end, CLOSED);
     keep(memory, first, end);
     return FAMSYNC_OK;
 }
@@ -311,8 +390,7 @@ static int close_and_copy(famsync *handle)
 
 static int put_run_back(famsync_memory *memory, size_t first, size_t end)
 {
-    memset(memory->dirty + first, STORED, end - first);
-    widen(&memory->open, first, end);
+    note_pages(memory, first, end, STORED);
     return FAMSYNC_OK;
 }
 

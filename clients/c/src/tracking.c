@@ -77,8 +77,7 @@ static int collect_part(famsync_memory *memory, uint64_t *begin, uint64_t end, b
     for (int i = 0; i < count && notes; i++) {
         size_t first = (size_t)(region[i].begin - (uintptr_t)memory->at) / memory->grain;
         size_t stop = (size_t)(region[i].end - (uintptr_t)memory->at) / memory->grain;
-        memset(memory->dirty + first, STORED, stop - first);
-        widen(&memory->open, first, stop);
+        note_pages(memory, first, stop, STORED);
     }
     *begin = scan.walk_end;
     return FAMSYNC_OK;

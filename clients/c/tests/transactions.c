@@ -82,8 +82,8 @@ static void failed(void)
     famsync *handle = opened_with((struct famsync_options){.size = sizeof(struct famsync_options), .fixed = 1});
     uint64_t transaction = begun(handle), mark = 77;
     WANT_CODE(famsync_memory_open(handle, "c", &memory), FAMSYNC_OK);
-    memset(famsync_memory_at(memory), 1, 40000);
     write_byte(handle, 0, 0, 1);
+    memset(famsync_memory_at(memory), 1, 40000);
     WANT_CODE(famsync_transaction_commit(handle, transaction, &mark), FAMSYNC_NOFRAME);
     WANT(mark == 77);
     WANT_CODE(famsync_memory_close(memory), FAMSYNC_OK);
