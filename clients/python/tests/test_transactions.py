@@ -11,6 +11,7 @@ import signal
 import sys
 import tempfile
 import threading
+import time
 import unittest
 from contextlib import suppress
 
@@ -276,7 +277,10 @@ class Interrupted(InAFolder):
 
     def test_at_random_moments(self):
         self.addCleanup(signal.signal, signal.SIGALRM, signal.signal(signal.SIGALRM, signal.default_int_handler))
-        there, most = 0, 0.002
+        began = time.monotonic()
+        with famsync.open("v.img", foreground=True) as volume:
+            self.change(volume, 1, False)
+        there, most = 0, max(0.002, 4 * (time.monotonic() - began))
         for turn in range(SIGNALS):
             self.make(self.slots, *self.files, layout=self.layout)
             volume, number = famsync.open("v.img", foreground=True), turn % 250 + 1
