@@ -187,7 +187,7 @@ struct famsync_plan {
     unsigned files;                      /* the number of files, 1 to 64 */
     const struct famsync_new_file *file; /* the files */
     int preallocate;                     /* not 0: allocate all blocks of the volume now; 0:
-                                            allocate each block at its first write */
+                                            allocate each block before its first write */
     char *message;                       /* a buffer for one line that explains why the volume
                                             wasn't made */
     size_t message_size;                 /* the buffer's size in bytes; a longer line is cut off */
@@ -229,8 +229,8 @@ int famsync_format(const char *volume, const struct famsync_plan *plan);
    backup to this file.
    FAMSYNC_SYSTEM with ENAMETOOLONG: the file's name has more than 247 bytes.
    FAMSYNC_NOSPACE: the disk is full, and the opening would write to blocks that aren't allocated.
-   Nothing changed. A volume made by this library has such blocks only if a program made holes in
-   it. A new volume of `famsync format` or of version 0.3 has them until its first opening.
+   Nothing changed. The library allocates these blocks in advance. The program `famsync` and version
+   0.3 don't, and other programs can make holes in the file.
 
    With the option `readonly`:
 

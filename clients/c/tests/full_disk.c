@@ -254,6 +254,7 @@ static void kill_child(void)
 {
     int status;
     end();
+    fflush(stdout);
     pid_t child = fork();
     if (child == 0) {
         begin(false, below(2));

@@ -39,7 +39,7 @@ def create(
     and 6, `log` is the number of blocks of the log, by default 16,384. A commit has to fit into the log. In layout 6,
     `key` is the key of the digests; 0 means a random key.
 
-    With `preallocate` all disk blocks are allocated now. Otherwise a block is allocated when it is first written.
+    With `preallocate` all disk blocks are allocated now. Otherwise a block is allocated before it is first written.
     Raises Argument if these arguments describe no valid volume."""
     made = [_new_file(name, length) for name, length in files.items()]
     said = ctypes.create_string_buffer(MESSAGE)

@@ -354,7 +354,7 @@ class Volume:
     def commit(self) -> int:
         """Makes all changes of this session durable, or none. Returns when they are durable, with the commit's number,
         counted from 1 in each session. If the commit fails and the session continues, all changes wait for the next
-        commit."""
+        commit. Raises NoSpace if the disk is full; then the session continues."""
         mark = ctypes.c_uint64()
         check(self._session.call(library.famsync_msync, ctypes.byref(mark)))
         return mark.value

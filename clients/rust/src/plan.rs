@@ -76,7 +76,7 @@ impl Plan {
         self
     }
 
-    /// Whether the disk's blocks are taken now; else as they are written.
+    /// Whether the disk's blocks are taken now; else before they are written.
     pub fn preallocate(&mut self, preallocate: bool) -> &mut Plan {
         self.preallocate = preallocate;
         self
