@@ -105,8 +105,8 @@ enum famsync_code {
                               stored to plain memory during the commit (only with
                               FAMSYNC_TRACK_KERNEL). From famsync_open and famsync_rollback, in
                               layouts 5 and 6: no number is left for another opening (a volume
-                              allows at most 2^64 - 2 openings). From famsync_msync and
-                              famsync_rollback: this thread holds a group (see famsync_begin). From
+                              allows at most 2^64 - 2 openings). From a commit or a
+                              rollback: this thread holds a group (see famsync_begin). From
                               famsync_close: a group is open. */
 
     /* the suspect flag (see famsync_msync), and sessions that only read */
@@ -364,15 +364,15 @@ int famsync_rollback(famsync *handle);
    calling thread makes within a group, or none of them. Any number of threads can hold groups at
    the same time.
 
-   famsync_msync and famsync_rollback take effect at a moment when no group is open. They wait for
-   the open groups. Meanwhile famsync_begin waits until that moment has passed, but not for the
-   commit's writes and syncs. Only with FAMSYNC_TRACK_KERNEL, and during a rollback, it waits until
-   the end of the call. No other call waits for groups. famsync_backup needs none, since it copies
-   only committed changes. A new length is a change like a write.
+   famsync_msync, famsync_rollback and the calls that end a transaction take effect at a moment when
+   no group is open. They wait for the open groups. Meanwhile famsync_begin waits until that moment
+   has passed, but not for the commit's writes and syncs. Only with FAMSYNC_TRACK_KERNEL, and during
+   a rollback, it waits until the end of the call. No other call waits for groups. famsync_backup
+   copies only committed changes. A new length is a change like a write.
 
    - If a thread begins a group within its own group, both are one group. It ends with the last
      famsync_end. Such a famsync_begin never waits.
-   - FAMSYNC_BUSY, from famsync_msync and famsync_rollback: this thread holds a group. Nothing
+   - FAMSYNC_BUSY, from a call that would wait for groups: this thread holds a group. Nothing
      changes. FAMSYNC_BUSY, from famsync_close: a group is open, of any thread.
    - FAMSYNC_ARGUMENT, from famsync_end: this thread holds no group.
    - If a thread ends within a group, commits fail with FAMSYNC_TORN until a rollback succeeds.
