@@ -117,7 +117,7 @@ enum famsync_code {
     FAMSYNC_READONLY = -41,     /* the session only reads */
 
     /* plain memory */
-    FAMSYNC_ADDRESS = -42, /* plain memory can't be at the given address */
+    FAMSYNC_ADDRESS = -42,  /* plain memory can't be at the given address */
     FAMSYNC_TRACKING = -44, /* the system can't track stores in the requested way */
 
     FAMSYNC_TRANSACTION = -45 /* a transaction is open (see famsync_transaction_begin) */
