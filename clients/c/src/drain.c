@@ -154,6 +154,7 @@ int reserve_calls(famsync *handle)
 {
     struct call call;
     int code = FAMSYNC_OK;
+    handle->space.hole = (struct span){0, 0};
     for (uint32_t others = 0; code == FAMSYNC_OK && look_at(handle, others, &call); others++)
         if (call.kind != FAMSYNC_CORE_CALL_SYNC)
             code = reserve_blocks(handle, call.offset, call.length);

@@ -150,6 +150,7 @@ struct space {
     size_t claims, most; /* the number of claims, and of those that `claim` has room for */
     enum seen sees;      /* whether the system tells holes of the volume's file from data */
     bool cannot;         /* the file system can't allocate blocks ahead of writes */
+    struct span hole;    /* blocks of the last hole that was found; none once blocks are written */
     uint64_t first;      /* with a log: the position of this session's first commit */
     uint64_t next, end;  /* with a log: the next commit's position; the end of the blocks that are allocated */
     unsigned journals;   /* without a log: the number of journals, of their slots, and of the slots that are

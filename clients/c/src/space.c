@@ -106,13 +106,23 @@ static bool sees_holes(famsync *handle)
 
 /* Notes the blocks from `first` on that are allocated for they have data, and returns the first of the others. An
    allocation would make the next sync write more, even where it finds all blocks allocated. `*hole_end` is the end of
-   the hole there, as far as that is known. */
+   the hole there, as far as that is known. One look is enough for all blocks of a hole: a file system may look at each
+   allocated block in it. */
 static uint64_t skip_data(famsync *handle, uint64_t first, uint64_t *hole_end)
 {
-    off_t at = (off_t)(first * PAGE), data = lseek(handle->volume.file, at, SEEK_DATA);
+    struct span *found = &handle->space.hole;
+    off_t at = (off_t)(first * PAGE), data = -1;
     uint64_t hole;
-    if (data > at)
-        *hole_end = ((uint64_t)data + PAGE - 1) / PAGE;
+    if (first < found->begin || first >= found->end) {
+        data = lseek(handle->volume.file, at, SEEK_DATA);
+        *found = (struct span){first, first};
+        if (data > at)
+            found->end = ((size_t)data + PAGE - 1) / PAGE;
+        else if (data < 0 && errno == ENXIO)
+            found->end = handle->blocks;
+    }
+    if (found->end > first)
+        *hole_end = found->end;
     if (data != at)
         return first;
     hole = (uint64_t)lseek(handle->volume.file, at, SEEK_HOLE) / PAGE;
@@ -289,6 +299,7 @@ int reserve_space(famsync *handle)
     uint64_t end = space->next + blocks_of_commit(records);
     bool has_log = handle->log.blocks > 0, goes_on = has_log && end > space->end;
     int code = FAMSYNC_OK;
+    space->hole = (struct span){0, 0};
     if (records == 0 || space->cannot)
         return FAMSYNC_OK;
     if (goes_on || !has_log)
