@@ -257,12 +257,12 @@ int famsync_close(famsync *handle);
 /* famsync_files returns the number of files of the volume. Files are numbered from 0.
    famsync_file_name returns the name of a file, or a null pointer if there is no such file.
    famsync_file_length returns the current length of a file, or 0 if there is no such file. The
-   current length may still be uncommitted. famsync_file_capacity returns the greatest length that a
+   current length may still be uncommitted. famsync_capacity returns the greatest length that a
    file can have, or 0 if there is no such file. */
 unsigned famsync_files(const famsync *handle);
 const char *famsync_file_name(const famsync *handle, unsigned file);
 uint64_t famsync_file_length(const famsync *handle, unsigned file);
-uint64_t famsync_file_capacity(const famsync *handle, unsigned file);
+uint64_t famsync_capacity(const famsync *handle, unsigned file);
 
 /* Returns the greatest number of pages that one commit of this session can have. */
 unsigned famsync_frames(const famsync *handle);

@@ -427,7 +427,7 @@ uint64_t famsync_file_length(const famsync *handle, unsigned file)
     return handle && file < handle->files ? atomic_load(&handle->file[file].length) : 0;
 }
 
-uint64_t famsync_file_capacity(const famsync *handle, unsigned file)
+uint64_t famsync_capacity(const famsync *handle, unsigned file)
 {
     return handle && file < handle->files ? handle->file[file].capacity : 0;
 }

@@ -51,20 +51,20 @@ static void capacities(unsigned layout)
 {
     make_volume_of(layout, SLOTS, has_lengths(layout) ? "a=65536 b=1/5000 c=0/1099511" : "a=65536 b=5000 c=1099511");
     famsync *handle = opened();
-    WANT(famsync_file_capacity(handle, 0) == 65536 && famsync_file_capacity(handle, 1) == 5000);
-    WANT(famsync_file_capacity(handle, 2) == 1099511 && famsync_file_capacity(handle, 3) == 0);
-    WANT(famsync_file_capacity(NULL, 0) == 0);
+    WANT(famsync_capacity(handle, 0) == 65536 && famsync_capacity(handle, 1) == 5000);
+    WANT(famsync_capacity(handle, 2) == 1099511 && famsync_capacity(handle, 3) == 0);
+    WANT(famsync_capacity(NULL, 0) == 0);
     WANT_CODE(famsync_setlength(handle, "b", 5001), FAMSYNC_EINVAL);
     WANT(strcmp(famsync_error(handle), "famsync_setlength: the length 5001 exceeds the capacity of \"b\", 5000") == 0);
     if (has_lengths(layout)) {
         WANT_CODE(famsync_setlength(handle, "b", 5000), FAMSYNC_OK);
-        WANT(famsync_file_length(handle, 1) == 5000 && famsync_file_capacity(handle, 1) == 5000);
+        WANT(famsync_file_length(handle, 1) == 5000 && famsync_capacity(handle, 1) == 5000);
     } else {
         WANT_CODE(famsync_setlength(handle, "b", 4999), FAMSYNC_EINVAL);
         WANT(strstr(famsync_error(handle), "in layout ") && strstr(famsync_error(handle), " never changes"));
     }
     WANT_CODE(famsync_rollback(handle), FAMSYNC_OK);
-    WANT(famsync_file_capacity(handle, 1) == 5000 && of(handle).layout == layout);
+    WANT(famsync_capacity(handle, 1) == 5000 && of(handle).layout == layout);
     WANT_CODE(famsync_close(handle), FAMSYNC_OK);
 }
 

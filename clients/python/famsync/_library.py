@@ -94,7 +94,7 @@ CALLS = {
     "famsync_files": (c_uint, c_void_p),
     "famsync_file_name": (c_char_p, c_void_p, c_uint),
     "famsync_file_length": (c_uint64, c_void_p, c_uint),
-    "famsync_file_capacity": (c_uint64, c_void_p, c_uint),
+    "famsync_capacity": (c_uint64, c_void_p, c_uint),
     "famsync_frames": (c_uint, c_void_p),
     "famsync_setlength": (c_int, c_void_p, c_char_p, c_uint64),
     "famsync_read": (c_int, c_void_p, c_uint, c_uint64, c_void_p, c_size_t, POINTER(c_size_t)),

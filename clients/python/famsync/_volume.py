@@ -99,7 +99,7 @@ def _files(handle: ctypes.c_void_p) -> Dict[str, int]:
 def _capacities(handle: ctypes.c_void_p) -> Dict[str, int]:
     numbers = range(library.famsync_files(handle))
     return {
-        library.famsync_file_name(handle, file).decode(): library.famsync_file_capacity(handle, file)
+        library.famsync_file_name(handle, file).decode(): library.famsync_capacity(handle, file)
         for file in numbers
     }
 

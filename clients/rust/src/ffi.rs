@@ -93,7 +93,7 @@ extern "C" {
     pub fn famsync_files(handle: *const Famsync) -> c_uint;
     pub fn famsync_file_name(handle: *const Famsync, file: c_uint) -> *const c_char;
     pub fn famsync_file_length(handle: *const Famsync, file: c_uint) -> u64;
-    pub fn famsync_file_capacity(handle: *const Famsync, file: c_uint) -> u64;
+    pub fn famsync_capacity(handle: *const Famsync, file: c_uint) -> u64;
     pub fn famsync_frames(handle: *const Famsync) -> c_uint;
     pub fn famsync_setlength(handle: *mut Famsync, file: *const c_char, length: u64) -> c_int;
     pub fn famsync_read(

@@ -48,7 +48,7 @@ impl Session {
 
     fn file_capacity(&self, file: u32) -> u64 {
         // Safety: the session is open.
-        unsafe { ffi::famsync_file_capacity(self.handle(), file) }
+        unsafe { ffi::famsync_capacity(self.handle(), file) }
     }
 }
 
