@@ -1,5 +1,7 @@
 """Programs that run in threads, and their traces, which `replay` runs again on the volume from before."""
 
+import json
+
 from files.program import write
 from cases.images import image_of_one, makes_volume
 from cases.trial import agree, complains, ended_so, holds, leaves, prints, run
@@ -128,8 +130,23 @@ def two_threads_that_wait_for_each_other():
     yield from runs_and_replays(f'{TWO}"trace":1000,{EACH_WAITS}', 12)
 
 
+def leaves_the_same(trace):
+    """A run of the traced steps on the volume from before has the same replies, and leaves the same bytes."""
+    shape, *entries = map(json.loads, trace.splitlines())
+    del shape["trace"]
+    write("again.json", json.dumps({**shape, "steps": [step for step, _ in entries]}))
+    yield from prints("run|before.img|again.json", 0, "".join(reply + "\n" for _, reply in entries))
+    with open("v.img", "rb") as volume:
+        yield from holds("before.img", volume.read())
+
+
 def sixteen_threads_over_four_pages():
-    yield from runs_and_replays(SIXTEEN + ",".join([FOUR] * 4) + "]}", 100)
+    yield from makes_two_volumes()
+    write("v.json", SIXTEEN + ",".join([FOUR] * 4) + "]}")
+    ran = run("threads|v.img|v.json")
+    yield from is_replayed(ran, 100)
+    yield from leaves_the_same(ran.out)
+    yield from leaves("v.img", "before.img", "v.json", "v.trace", "again.json")
 
 
 def full_traces_are_printed():

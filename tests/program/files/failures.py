@@ -2,12 +2,13 @@
 
 import errno
 import itertools
+import json
 import os
 import signal
 
 from files.program import (
-    EXPORT, MIGRATE, NEWER, OLD, OTHER, REPLIES, TO_OTHER, bytes_of, calls_of, clear, complains, ended, famsync, has,
-    start, stopped, volume, write, write_image,
+    EXPORT, MIGRATE, NEWER, OLD, OTHER, REPLIES, SHAPE, TO_OTHER, bytes_of, calls_of, clear, complains, ended, famsync,
+    has, start, stopped, volume, write, write_image,
 )
 from lib.processes import TOP, want
 
@@ -212,6 +213,30 @@ def threads_that_fail():
         ran = famsync(*words, fault=f"kill:{call}")
         want(ran.status in (0, -signal.SIGKILL), "it ends or is killed", call, ran)
         has(OLD, *after)
+
+
+def steps_of_spaces(count, length):
+    """Spaces, each of which maps a file from 4,096 on."""
+    spaces = range(1, count + 1)
+    return [step for space in spaces for step in ([0, "create"], [0, "map", space, 4096, length, 0, 0, "rw", "rw"])]
+
+
+def suffices(steps, memory):
+    """Whether no step lacks memory in a run with this much address space."""
+    write("v.img.steps", json.dumps({**SHAPE, "steps": steps}))
+    ran = famsync("run", "v.img", "v.img.steps", memory=memory)
+    return ran.status == 0 and "outofmemory" not in ran.out
+
+
+def bounded_memory():
+    """All spaces, each with a mapping of four pages, take less than 80 MB; a mapping of 65,536 pages less than 1.2 MB.
+    Less than half of that doesn't suffice for the spaces."""
+    volume()
+    little = next(memory for memory in range(1 << 20, 1 << 26, 1 << 16) if suffices(steps_of_spaces(1, 4096), memory))
+    want(suffices(steps_of_spaces(1, 1 << 28), little + 1_200_000), "a large mapping has room", little)
+    spaces = steps_of_spaces(4095, 16_384)
+    want(suffices(spaces, little + 80_000_000), "all spaces have room", little)
+    want(not suffices(spaces, little + 40_000_000), "all spaces have no room in half of it", little)
 
 
 def little_memory():
