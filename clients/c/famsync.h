@@ -229,7 +229,7 @@ int famsync_format(const char *volume, const struct famsync_plan *plan);
    backup to this file.
    FAMSYNC_SYSTEM with ENAMETOOLONG: the file's name has more than 247 bytes.
    FAMSYNC_NOSPACE: the disk is full, and the opening would write to blocks that aren't allocated.
-   Nothing changed. The library allocates these blocks in advance. The program `famsync` and version
+   Nothing is lost. The library allocates these blocks in advance. The program `famsync` and version
    0.3 don't, and other programs can make holes in the file.
 
    With the option `readonly`:

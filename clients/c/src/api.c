@@ -191,14 +191,12 @@ static unsigned most_gathered(const famsync *handle)
     return handle->log.blocks > 0 ? MOST_WAITING : handle->head;
 }
 
-/* Makes what the opening has recorded, unless the disk is full. */
+/* Makes what the opening has recorded. */
 static int make_opening_calls(famsync *handle)
 {
     int code = begin_space(handle);
     note_position(handle);
-    if (code == FAMSYNC_OK)
-        code = reserve_calls(handle);
-    return code == FAMSYNC_OK ? drain(handle) : code;
+    return code == FAMSYNC_OK ? drain_opening(handle) : code;
 }
 
 /* Opens the volume in the core, and makes what that records: what a crash left of a commit is carried out. The supplied

@@ -150,17 +150,6 @@ bool carries_out_commits(famsync *handle)
     return false;
 }
 
-int reserve_calls(famsync *handle)
-{
-    struct call call;
-    int code = FAMSYNC_OK;
-    handle->space.hole = (struct span){0, 0};
-    for (uint32_t others = 0; code == FAMSYNC_OK && look_at(handle, others, &call); others++)
-        if (call.kind != FAMSYNC_CORE_CALL_SYNC)
-            code = reserve_blocks(handle, call.offset, call.length);
-    return code;
-}
-
 /* The start that an opening writes comes behind all commits. Its byte 16 begins the position (docs/FORMATS.md). */
 void note_position(famsync *handle)
 {
@@ -322,4 +311,14 @@ int drain(famsync *handle)
 int drain_many(famsync *handle)
 {
     return famsync_core_waiting(handle->core, &handle->core.at) >= MOST_WAITING ? drain_all(handle) : FAMSYNC_OK;
+}
+
+/* The calls of an opening need no new blocks, where commits allocated theirs. So nothing is allocated for them: xfs has
+   no room for that on a full disk, even if the blocks are allocated. The call that failed is the oldest that waits. */
+int drain_opening(famsync *handle)
+{
+    struct call failed;
+    int code = drain(handle);
+    bool is_full = code == FAMSYNC_DEVICE && (errno == ENOSPC || errno == EDQUOT);
+    return is_full && look_at(handle, 0, &failed) && failed.kind != FAMSYNC_CORE_CALL_SYNC ? FAMSYNC_NOSPACE : code;
 }

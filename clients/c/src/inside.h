@@ -351,6 +351,8 @@ int flag_suspect(const struct volume *volume);
 /* drain.c: makes the calls that the core has recorded. If the newest call is a write, `drain` makes
    none of them: writes wait for their sync. An error ends the session. */
 int drain(famsync *handle);
+/* The same for the calls of an opening. FAMSYNC_NOSPACE: a write found the disk full. */
+int drain_opening(famsync *handle);
 /* `drain_all` makes all waiting calls. `drain_many` does so only if there are MOST_WAITING or more.
    Once the session is over, no calls are made. */
 int drain_all(famsync *handle);
@@ -359,8 +361,6 @@ int drain_many(famsync *handle);
    a start of the log. */
 bool ends_with_sync(famsync *handle);
 bool ends_with_start(famsync *handle);
-/* Allocates all blocks that the waiting calls write. FAMSYNC_NOSPACE: the disk is full; no call is made. */
-int reserve_calls(famsync *handle);
 /* With a log: notes the position at which the next commit begins. The caller has just opened the volume, and the calls
    of that still wait. */
 void note_position(famsync *handle);
@@ -392,8 +392,6 @@ int claim_pages(famsync *handle, unsigned file, uint64_t page, uint64_t pages);
 void forget_claims(famsync *handle);
 /* Allocates all blocks that the next commit will write. FAMSYNC_NOSPACE: the disk is full; errno has the cause. */
 int reserve_space(famsync *handle);
-/* Allocates the blocks of a write. */
-int reserve_blocks(famsync *handle, uint64_t offset, uint64_t length);
 /* With a log: the next commit begins at this position. `follow_log` finds it out from each write that is made. */
 void begin_log(famsync *handle, uint32_t position);
 void follow_log(famsync *handle, uint64_t offset, uint64_t length);

@@ -312,13 +312,3 @@ int reserve_space(famsync *handle)
         allocate_ahead(handle);
     return code;
 }
-
-int reserve_blocks(famsync *handle, uint64_t offset, uint64_t length)
-{
-    uint64_t first = offset / PAGE, end = (offset + length + PAGE - 1) / PAGE;
-    int code = FAMSYNC_OK;
-    for (; first < end && code == FAMSYNC_OK; first++)
-        if (!is_known(&handle->space, first))
-            code = allocate(handle, first, end);
-    return code;
-}

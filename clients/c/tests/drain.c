@@ -72,12 +72,6 @@ int flag_suspect(const struct volume *volume)
     return FAMSYNC_OK;
 }
 
-int reserve_blocks(famsync *handle, uint64_t offset, uint64_t length)
-{
-    (void)handle, (void)offset, (void)length;
-    return FAMSYNC_OK;
-}
-
 void begin_log(famsync *handle, uint32_t position)
 {
     (void)handle, (void)position;

@@ -31,7 +31,8 @@ static struct disk {
 
 static int error = ENOSPC; /* how an allocation fails on a full disk */
 static atomic_int fails;   /* errno of all allocations, if it isn't 0 */
-static bool is_all_data;   /* the system doesn't tell holes from data */
+static bool like_xfs;
+static bool is_all_data; /* the system doesn't tell holes from data */
 
 /* Takes a block of the disk. */
 static bool take_block(size_t block)
@@ -46,12 +47,14 @@ static bool take_block(size_t block)
     return true;
 }
 
-/* As ext4 does, it keeps what it could allocate. */
+/* As ext4 does, it keeps what it could allocate. xfs wants room even if all blocks are allocated. */
 int fallocate(int file, int mode, off_t offset, off_t length)
 {
     WANT(file > 2 && mode == FALLOC_FL_KEEP_SIZE && offset % 4096 == 0 && length > 0 && length % 4096 == 0);
     atomic_fetch_add(&disk->asked, 1);
     errno = atomic_load(&fails);
+    if (errno == 0 && like_xfs && atomic_load(&disk->room) == 0)
+        errno = error;
     if (errno != 0)
         return -1;
     for (off_t at = offset; at < offset + length; at += 4096)
@@ -137,6 +140,8 @@ static void make(void)
     now.length = has_lengths(layout) ? 0 : B_MOST;
     committed = now;
     begin_disk(PLENTY);
+    for (unsigned block = 1; block < 4 && has_log(layout); block++)
+        disk->allocated[block] = true; /* as famsync_format makes it */
 }
 
 static void want_model(const struct model *model)
@@ -278,6 +283,7 @@ static unsigned fill_again_and_again(void)
 {
     unsigned refused = 0;
     make();
+    like_xfs = below(2);
     begin(false, true);
     atomic_store(&disk->room, (int)below(40));
     for (unsigned round = 0; round < ROUNDS; round++) {
@@ -296,25 +302,27 @@ static unsigned fill_again_and_again(void)
     begin(false, false);
     want_model(&committed);
     end();
+    like_xfs = false;
     return refused;
 }
 
 /* A new volume can be opened on a full disk, if famsync_format made it. One that has only its blocks that aren't zeros
-   can be read, and be opened once there is room; until then nothing changes. */
+   can be read, and be opened once there is room. */
 static void open_new(void)
 {
     make();
-    atomic_store(&disk->room, 0);
+    begin_disk(0);
     int code = famsync_open(volume, NULL, &handle);
     if (has_log(layout)) {
         WANT_CODE(code, FAMSYNC_NOSPACE);
-        WANT(errno == error && handle == NULL);
+        WANT(errno == ENOSPC && handle == NULL);
         begin(true, false);
         want_model(&committed);
-        end();
+        WANT_CODE(famsync_close(handle), FAMSYNC_OK);
         atomic_store(&disk->room, 2);
         begin(false, false);
     }
+    atomic_store(&disk->unreserved, 0);
     end();
 }
 
