@@ -132,7 +132,7 @@ static int read_file(famsync *handle, unsigned file, uint64_t offset, unsigned c
     if (file >= handle->files)
         return no_such_number(handle, file);
     length = handle->file[file].length;
-    if (offset >= length)
+    if (offset >= length || count == 0)
         return FAMSYNC_OK;
     if (count > length - offset)
         count = (size_t)(length - offset);
