@@ -5,7 +5,6 @@
 #include <stdatomic.h>
 
 #define LONG (12 * 4096)
-#define ROUNDS 2000u
 
 /* No power is cut here. */
 int fdatasync(int file)
@@ -24,6 +23,7 @@ static famsync *handle;
 static famsync_memory *memory;
 static atomic_bool stopped;
 static atomic_uint touched;
+static unsigned rounds; /* in a tool that is slow, less is tried */
 
 static void *touch(void *argument)
 {
@@ -37,7 +37,7 @@ static void *touch(void *argument)
 
 static void change_lengths(void)
 {
-    for (unsigned round = 0; round < ROUNDS || (atomic_load(&touched) == 0 && round < 100 * ROUNDS); round++) {
+    for (unsigned round = 0; round < rounds || (atomic_load(&touched) == 0 && round < 100 * rounds); round++) {
         WANT_CODE(famsync_setlength(handle, "a", round % 2 == 0 ? 4096 : LONG), FAMSYNC_OK);
         WANT(famsync_memory_dirty(memory) <= 12);
         WANT_CODE(famsync_msync(handle, NULL), FAMSYNC_OK);
@@ -79,6 +79,7 @@ int main(void)
     struct famsync_options resident = none, tracked = none;
     resident.resident = 1;
     tracked.tracking = FAMSYNC_TRACK_KERNEL;
+    rounds = getenv("WITHOUT_SIGNALS") ? 60 : 2000;
     for (unsigned layout = 3; layout <= LAYOUTS; layout++) {
         beside(layout, none);
         beside(layout, resident);
