@@ -1,5 +1,5 @@
 /*
- * What the library does up to a commit's acknowledgement, by hand and for one file: a volume of layout 1, 5 or 6
+ * What the library does up to a commit's acknowledgement, by hand and for one file: a volume of layout 5 or 6
  * (docs/FORMATS.md), whose pages are stored to and committed by the same faults, copies and calls of the system, with
  * nothing around them.
  *
@@ -22,25 +22,18 @@
 
 enum { CLOSED, STORED, OPENED };
 
-#define SLOTS 1020
 #define MOST_AHEAD 32
-#define GATE ((off_t)PAGE)
-#define DESCRIPTOR ((off_t)PAGE * 2)
-#define HOME (3 + SLOTS)
 
-/* A volume, and what is kept of its file. */
+/* A volume, which log by hand it has, and what is kept of its file. */
 struct volume {
     const char *path;
-    int file;
-    uint64_t mark;
+    unsigned log;
     unsigned char *kept;
     int *stored; /* the pages that were stored to since the last commit, going up */
     int count;
 };
 
-static struct volume plain = {.path = "hand.vol"}, called = {.path = "hand_write.vol"};
-/* The descriptor of a commit, and its records. */
-static unsigned char journal[(1 + SLOTS) * PAGE];
+static struct volume plain = {.path = "hand.vol"}, called = {.path = "hand_write.vol", .log = 1};
 
 /* Plain memory of the first volume. */
 static unsigned char *memory, *copy, *state;
@@ -58,78 +51,25 @@ static unsigned char *memory_of(size_t bytes)
 static void begin(struct volume *volume)
 {
     size_t bytes = bytes_of_file();
-    must(has_log_by_hand() || (volumes.layout == 1 && volumes.slots == SLOTS), "by hand there is no other volume");
     make_volume_file(volume->path);
-    if (has_log_by_hand())
-        open_log(volume->path);
-    volume->file = open(volume->path, O_RDWR);
+    choose_log(volume->log);
+    open_log(volume->path);
     volume->stored = calloc(bytes / PAGE, sizeof *volume->stored);
-    must(volume->file >= 0 && volume->stored, volume->path);
+    must(volume->stored != NULL, volume->path);
     volume->kept = memory_of(bytes);
     memset(volume->kept, 0, bytes);
-    memset(journal, 0, sizeof journal);
 }
 
 static void end(struct volume *volume)
 {
     munmap(volume->kept, bytes_of_file());
     free(volume->stored);
-    if (has_log_by_hand())
-        close_log();
-    must(close(volume->file) == 0, "close");
-}
-
-static void put_number(unsigned char *bytes, unsigned count, uint64_t number)
-{
-    for (unsigned i = count; i > 0; i--, number >>= 8)
-        bytes[i - 1] = (unsigned char)number;
-}
-
-static void put_gate(const struct volume *volume, unsigned char gate)
-{
-    must(pwrite(volume->file, &gate, 1, GATE) == 1 && fdatasync(volume->file) == 0, "gate");
-}
-
-/* Makes the journal of a commit, writes it by one call and syncs it, and opens the gate: it is durable then. */
-static void write_journal(struct volume *volume)
-{
-    size_t length = (size_t)(1 + volume->count) * PAGE;
-    memset(journal, 0, PAGE);
-    put_number(journal, 8, ++volume->mark);
-    put_number(journal + 8, 4, (uint64_t)volume->count);
-    for (int i = 0; i < volume->count; i++) {
-        put_number(journal + 16 + 4 * i, 4, (uint64_t)(HOME + volume->stored[i]));
-        memcpy(journal + (size_t)(1 + i) * PAGE, volume->kept + (size_t)volume->stored[i] * PAGE, PAGE);
-    }
-    struct iovec range = {journal, length};
-    must(pwritev(volume->file, &range, 1, DESCRIPTOR) == (ssize_t)length, "pwritev");
-    must(fdatasync(volume->file) == 0, "fdatasync");
-    put_gate(volume, 0xa7);
-}
-
-/* Writes the records to their home blocks, neighbours by one call, and closes the gate. */
-static void write_home(struct volume *volume)
-{
-    for (int i = 0, end; i < volume->count; i = end) {
-        off_t home = (off_t)PAGE * (HOME + volume->stored[i]);
-        size_t length;
-        for (end = i + 1; end < volume->count && volume->stored[end] == volume->stored[end - 1] + 1;)
-            end++;
-        length = (size_t)(end - i) * PAGE;
-        struct iovec range = {journal + (size_t)(1 + i) * PAGE, length};
-        must(pwritev(volume->file, &range, 1, home) == (ssize_t)length, "pwritev");
-    }
-    must(fdatasync(volume->file) == 0, "fdatasync");
-    put_gate(volume, 0);
-    volume->count = 0;
+    choose_log(volume->log);
+    close_log();
 }
 
 static void write_commit(struct volume *volume)
 {
-    if (!has_log_by_hand()) {
-        write_journal(volume);
-        return;
-    }
     append_to_log(volume->stored, volume->count, volume->kept);
     volume->count = 0;
 }
@@ -203,8 +143,8 @@ static void commit_plain(int number)
         size_t at = (size_t)plain.stored[i] * PAGE;
         memcpy(copy + at, memory + at, PAGE);
     }
-    if (has_log_by_hand())
-        write_commits_home(plain.kept);
+    choose_log(plain.log);
+    write_commits_home(plain.kept);
     for (int i = 0; i < plain.count; i++) {
         size_t at = (size_t)plain.stored[i] * PAGE;
         memcpy(plain.kept + at, copy + at, PAGE);
@@ -214,10 +154,8 @@ static void commit_plain(int number)
 
 static void finish_plain(void)
 {
-    if (has_log_by_hand())
-        empty_log(plain.kept);
-    else
-        write_home(&plain);
+    choose_log(plain.log);
+    empty_log(plain.kept);
 }
 
 static void begin_called(void)
@@ -229,6 +167,8 @@ static void commit_called(int number)
 {
     static unsigned char page[PAGE];
     memcpy(page, &number, sizeof number);
+    choose_log(called.log);
+    write_commits_home(called.kept);
     for (int i = 0; i < pages.count; i++) {
         memcpy(called.kept + page_of(i, number) * PAGE, page, PAGE);
         called.stored[called.count++] = (int)page_of(i, number);
@@ -238,7 +178,8 @@ static void commit_called(int number)
 
 static void finish_called(void)
 {
-    write_home(&called);
+    choose_log(called.log);
+    empty_log(called.kept);
 }
 
 static void end_called(void)

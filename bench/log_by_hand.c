@@ -23,7 +23,7 @@
    sync ends the move. */
 enum move { RESTING, WRITTEN, SURE, SELECTED };
 
-static struct {
+struct ring {
     int file;
     uint32_t blocks;     /* of the ring */
     uint64_t key, epoch; /* the digest's seed is one XOR the other */
@@ -34,7 +34,9 @@ static struct {
     uint32_t moved_over; /* the blocks that this frees */
     unsigned char *room; /* the descriptor and records of a commit */
     bool *is_changed;    /* for each page, whether its newest bytes aren't at home */
-} ring;
+};
+
+static struct ring rings[LOGS_BY_HAND], *ring = rings;
 
 static void put_number(unsigned char *bytes, unsigned count, uint64_t number)
 {
@@ -52,24 +54,24 @@ static uint64_t number_at(const unsigned char *bytes, unsigned count)
 
 static void read_at(unsigned char *bytes, size_t length, off_t offset)
 {
-    must(pread(ring.file, bytes, length, offset) == (ssize_t)length, "pread");
+    must(pread(ring->file, bytes, length, offset) == (ssize_t)length, "pread");
 }
 
 static void write_at(const unsigned char *bytes, size_t length, off_t offset)
 {
-    must(pwrite(ring.file, bytes, length, offset) == (ssize_t)length, "pwrite");
+    must(pwrite(ring->file, bytes, length, offset) == (ssize_t)length, "pwrite");
 }
 
 /* Makes durable what was written, and also a step of a move. */
 static void sync_file(void)
 {
-    must(fdatasync(ring.file) == 0, "fdatasync");
-    if (ring.move == WRITTEN) {
-        ring.move = SURE;
-    } else if (ring.move == SELECTED) {
-        ring.selected = 1 - ring.selected;
-        ring.used -= ring.moved_over;
-        ring.move = RESTING;
+    must(fdatasync(ring->file) == 0, "fdatasync");
+    if (ring->move == WRITTEN) {
+        ring->move = SURE;
+    } else if (ring->move == SELECTED) {
+        ring->selected = 1 - ring->selected;
+        ring->used -= ring->moved_over;
+        ring->move = RESTING;
     }
 }
 
@@ -121,9 +123,9 @@ static uint64_t digest_of(const unsigned char *bytes, size_t length, uint64_t se
 
 /* ---- the volume */
 
-bool has_log_by_hand(void)
+void choose_log(unsigned which)
 {
-    return volumes.layout >= 5;
+    ring = &rings[which];
 }
 
 static bool has_digest(void)
@@ -139,38 +141,38 @@ static size_t pages_of_file(void)
 void open_log(const char *path)
 {
     unsigned char super[PAGE], start[PAGE], selector;
-    memset(&ring, 0, sizeof ring);
-    ring.file = open(path, O_RDWR);
-    must(ring.file >= 0, path);
+    memset(ring, 0, sizeof *ring);
+    ring->file = open(path, O_RDWR);
+    must(ring->file >= 0, path);
     read_at(super, PAGE, 0);
     read_at(&selector, 1, (off_t)SELECTOR * PAGE);
-    ring.selected = selector == OPEN;
-    read_at(start, PAGE, (off_t)(STARTS + ring.selected) * PAGE);
-    ring.blocks = (uint32_t)number_at(super + 12, 4);
-    ring.key = number_at(super + 24, 8);
-    ring.number = number_at(start, 8);
-    ring.epoch = number_at(start + 8, 8);
-    ring.end = (uint32_t)number_at(start + 16, 4);
-    ring.room = calloc(pages_of_file() + 1 + (HEAD + 4 * pages_of_file()) / PAGE + 1, PAGE);
-    ring.is_changed = calloc(pages_of_file(), sizeof *ring.is_changed);
-    must(ring.room && ring.is_changed, "no memory");
+    ring->selected = selector == OPEN;
+    read_at(start, PAGE, (off_t)(STARTS + ring->selected) * PAGE);
+    ring->blocks = (uint32_t)number_at(super + 12, 4);
+    ring->key = number_at(super + 24, 8);
+    ring->number = number_at(start, 8);
+    ring->epoch = number_at(start + 8, 8);
+    ring->end = (uint32_t)number_at(start + 16, 4);
+    ring->room = calloc(pages_of_file() + 1 + (HEAD + 4 * pages_of_file()) / PAGE + 1, PAGE);
+    ring->is_changed = calloc(pages_of_file(), sizeof *ring->is_changed);
+    must(ring->room && ring->is_changed, "no memory");
 }
 
 void close_log(void)
 {
-    free(ring.room);
-    free(ring.is_changed);
-    must(close(ring.file) == 0, "close");
+    free(ring->room);
+    free(ring->is_changed);
+    must(close(ring->file) == 0, "close");
 }
 
 /* ---- writing home */
 
 static void write_changed(const unsigned char *kept)
 {
-    size_t pages = pages_of_file(), home = LOG + ring.blocks + 1;
+    size_t pages = pages_of_file(), home = LOG + ring->blocks + 1;
     for (size_t page = 0, end; page < pages; page = end + 1) {
-        for (end = page; end < pages && ring.is_changed[end]; end++)
-            ring.is_changed[end] = false;
+        for (end = page; end < pages && ring->is_changed[end]; end++)
+            ring->is_changed[end] = false;
         if (end > page)
             write_at(kept + page * PAGE, (end - page) * PAGE, (off_t)((home + page) * PAGE));
     }
@@ -179,17 +181,17 @@ static void write_changed(const unsigned char *kept)
 static void write_start(void)
 {
     unsigned char start[PAGE] = {0};
-    put_number(start, 8, ring.number);
-    put_number(start + 8, 8, ring.epoch);
-    put_number(start + 16, 4, ring.end);
-    write_at(start, PAGE, (off_t)(STARTS + 1 - ring.selected) * PAGE);
-    ring.moved_over = ring.used;
-    ring.move = WRITTEN;
+    put_number(start, 8, ring->number);
+    put_number(start + 8, 8, ring->epoch);
+    put_number(start + 16, 4, ring->end);
+    write_at(start, PAGE, (off_t)(STARTS + 1 - ring->selected) * PAGE);
+    ring->moved_over = ring->used;
+    ring->move = WRITTEN;
 }
 
 void write_commits_home(const unsigned char *kept)
 {
-    if (ring.move == RESTING && 2 * ring.used >= ring.blocks) {
+    if (ring->move == RESTING && 2 * ring->used >= ring->blocks) {
         write_changed(kept);
         write_start();
     }
@@ -197,10 +199,10 @@ void write_commits_home(const unsigned char *kept)
 
 static void select_start(void)
 {
-    unsigned char selector = ring.selected == 0 ? OPEN : 0;
-    if (ring.move == SURE) {
+    unsigned char selector = ring->selected == 0 ? OPEN : 0;
+    if (ring->move == SURE) {
         write_at(&selector, 1, (off_t)SELECTOR * PAGE);
-        ring.move = SELECTED;
+        ring->move = SELECTED;
     }
 }
 
@@ -208,11 +210,11 @@ static void select_start(void)
 void empty_log(const unsigned char *kept)
 {
     for (int moves = 0; moves < 2; moves++) {
-        if (ring.move == RESTING) {
+        if (ring->move == RESTING) {
             write_changed(kept);
             write_start();
         }
-        for (; ring.move != RESTING; sync_file())
+        for (; ring->move != RESTING; sync_file())
             select_start();
     }
 }
@@ -222,7 +224,7 @@ void empty_log(const unsigned char *kept)
 /* Writes bytes to the ring, `skipped` bytes behind the beginning of the next commit. */
 static void write_ring(const unsigned char *bytes, size_t length, size_t skipped)
 {
-    size_t size = (size_t)ring.blocks * PAGE, at = ((size_t)ring.end * PAGE + skipped) % size;
+    size_t size = (size_t)ring->blocks * PAGE, at = ((size_t)ring->end * PAGE + skipped) % size;
     size_t first = length < size - at ? length : size - at;
     write_at(bytes, first, (off_t)(at + (size_t)LOG * PAGE));
     if (first < length)
@@ -233,13 +235,13 @@ static void write_ring(const unsigned char *bytes, size_t length, size_t skipped
 static uint32_t lay_out_commit(const int *page, int count, const unsigned char *kept)
 {
     uint32_t blocks = (HEAD + 4 * (uint32_t)count + PAGE - 1) / PAGE;
-    memset(ring.room, 0, (size_t)blocks * PAGE);
-    put_number(ring.room + 8, 8, ring.number);
-    put_number(ring.room + 16, 4, (uint64_t)count);
+    memset(ring->room, 0, (size_t)blocks * PAGE);
+    put_number(ring->room + 8, 8, ring->number);
+    put_number(ring->room + 16, 4, (uint64_t)count);
     for (int i = 0; i < count; i++) {
-        put_number(ring.room + HEAD + 4 * i, 4, LOG + ring.blocks + 1 + (uint64_t)page[i]);
-        memcpy(ring.room + (size_t)blocks++ * PAGE, kept + (size_t)page[i] * PAGE, PAGE);
-        ring.is_changed[page[i]] = true;
+        put_number(ring->room + HEAD + 4 * i, 4, LOG + ring->blocks + 1 + (uint64_t)page[i]);
+        memcpy(ring->room + (size_t)blocks++ * PAGE, kept + (size_t)page[i] * PAGE, PAGE);
+        ring->is_changed[page[i]] = true;
     }
     return blocks;
 }
@@ -247,32 +249,32 @@ static uint32_t lay_out_commit(const int *page, int count, const unsigned char *
 /* The first write ends with the byte that closes the next commit's seal. */
 static void write_with_byte(size_t length)
 {
-    ring.room[length] = 0;
-    write_ring(ring.room + 1, length, 1);
+    ring->room[length] = 0;
+    write_ring(ring->room + 1, length, 1);
     sync_file();
     select_start();
-    ring.room[0] = OPEN;
-    write_ring(ring.room, 1, 0);
+    ring->room[0] = OPEN;
+    write_ring(ring->room, 1, 0);
     sync_file();
 }
 
 static void write_with_digest(size_t length)
 {
-    put_number(ring.room, 8, digest_of(ring.room + 8, length - 8, ring.key ^ ring.epoch));
+    put_number(ring->room, 8, digest_of(ring->room + 8, length - 8, ring->key ^ ring->epoch));
     select_start();
-    write_ring(ring.room, length, 0);
+    write_ring(ring->room, length, 0);
     sync_file();
 }
 
 void append_to_log(const int *page, int count, const unsigned char *kept)
 {
     uint32_t blocks = lay_out_commit(page, count, kept);
-    must(ring.used + blocks + 1 <= ring.blocks, "the log is too small for this row");
+    must(ring->used + blocks + 1 <= ring->blocks, "the log is too small for this row");
     if (has_digest())
         write_with_digest((size_t)blocks * PAGE);
     else
         write_with_byte((size_t)blocks * PAGE);
-    ring.number++;
-    ring.end = (ring.end + blocks) % ring.blocks;
-    ring.used += blocks;
+    ring->number++;
+    ring->end = (ring->end + blocks) % ring->blocks;
+    ring->used += blocks;
 }

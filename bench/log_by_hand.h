@@ -3,10 +3,11 @@
 #ifndef LOG_BY_HAND_H
 #define LOG_BY_HAND_H
 
-#include <stdbool.h>
+/* The number of logs, each of a volume of its own. */
+#define LOGS_BY_HAND 2
 
-/* Whether the volumes have a log. */
-bool has_log_by_hand(void);
+/* Chooses the log that all other functions use. */
+void choose_log(unsigned which);
 
 /* Open and close the log of a new volume that has one file. */
 void open_log(const char *path);

@@ -2,7 +2,7 @@
 
    usage: long_random VOLUME MODEL SECONDS BUDGET [kernel] [COMMITS]
 
-   The volume is of layout 4 with one file, `a`, and commits of at least 5,000 pages. BUDGET is in bytes. The model is a
+   The volume is of layout 5 with one file, `a`, and commits of at least 5,000 pages. BUDGET is in bytes. The model is a
    plain file that gets the same bytes by pwrite and the same lengths by ftruncate; before a page of it changes, its
    committed bytes are kept for a rollback. It ends after so many seconds or, if COMMITS is there, commits.
 

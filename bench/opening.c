@@ -22,7 +22,7 @@ static void want(int code, const char *what)
 static int format(const char *volume, uint64_t bytes)
 {
     struct famsync_new_file file = {.name = "a", .length = bytes};
-    struct famsync_plan plan = {.size = sizeof plan, .layout = 4, .slots = 256, .files = 1, .file = &file};
+    struct famsync_plan plan = {.size = sizeof plan, .layout = 5, .files = 1, .file = &file};
     double began = now();
     want(famsync_format(volume, &plan), "famsync_format");
     printf("%.0f\n", now() - began);

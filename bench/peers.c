@@ -1,18 +1,18 @@
 /*
  * Commits of several ways to make pages durable, for bench/peers. Each commit stores to PAGES pages. Every APART-th of
  * a file is one of them; or with `aside` or `anywhere` in the place of APART, each commit has other pages of a file of
- * 64 MB, side by side or anywhere. Volumes are of a layout, and have so many slots in a journal.
+ * 64 MB, side by side or anywhere. Volumes are of a layout, and have room for a commit of so many records.
  *
- *   peers turns LAYOUT SLOTS PAGES APART TURNS WAY ..
+ *   peers turns LAYOUT RECORDS PAGES APART TURNS WAY ..
  *           the ways take turns, a commit each, and what comes after its acknowledgement is waited for; prints for each
  *           the microseconds of its commit in the middle
- *   peers rows LAYOUT SLOTS PAGES APART TURNS COMMITS WAY ..
+ *   peers rows LAYOUT RECORDS PAGES APART TURNS COMMITS WAY ..
  *           the ways take turns, a row of commits each, of which each comes right after the one before; prints for each
  *           the microseconds of a commit of its row in the middle
- *   peers counted LAYOUT SLOTS PAGES APART COMMITS WAY
+ *   peers counted LAYOUT RECORDS PAGES APART COMMITS WAY
  *           prints writes, bytes, syncs, reads and protections of so many commits up to their acknowledgement, by the
  *           thread that commits; and the first three in all. With counted.c before it
- *   peers counted-row LAYOUT SLOTS PAGES APART COMMITS WAY
+ *   peers counted-row LAYOUT RECORDS PAGES APART COMMITS WAY
  *           prints the same of so many commits in a row; and the first three in all, of these, of the two before them,
  *           and of what is left after the last until the store is closed. With counted.c before it
  *
@@ -71,7 +71,7 @@ void make_volume_file(const char *path)
     strcpy(folder, ".");
     snprintf(volume, sizeof volume, "%s", path);
     snprintf(files, sizeof files, "a=%zu", bytes_of_file());
-    make_volume_of(volumes.layout, volumes.slots, files);
+    make_volume_of(volumes.layout, volumes.records, files);
 }
 
 void make_hole(const char *path)
@@ -80,35 +80,20 @@ void make_hole(const char *path)
     char files[40];
     uint32_t lengths_at, blocks;
     snprintf(files, sizeof files, "a=%zu", bytes_of_file());
-    blocks = lay_out(volumes.layout, volumes.slots, files, super, lengths, &lengths_at);
+    blocks = lay_out(volumes.layout, volumes.records, files, super, lengths, &lengths_at);
     int file = open(path, O_RDWR | O_CREAT | O_TRUNC, 0666);
     must(file >= 0 && ftruncate(file, (off_t)blocks * PAGE) == 0, path);
-    write_new(file, volumes.layout, super, lengths, lengths_at);
+    write_new(file, super, lengths, lengths_at);
     must(close(file) == 0, path);
-}
-
-/* Whether a commit isn't written home. */
-static bool has_open_gate(int file)
-{
-    if (has_log(volumes.layout))
-        return commits_in_log(file) > 0;
-    for (unsigned journal = 0; journal < journals_of(volumes.layout); journal++) {
-        off_t at = (off_t)gate_block(volumes.slots, journal) * PAGE;
-        unsigned char gate;
-        must(syscall(SYS_pread64, file, &gate, 1, at) == 1, "a gate");
-        if (gate == 0xa7)
-            return true;
-    }
-    return false;
 }
 
 void wait_until_home(const char *path)
 {
     int file = open(path, O_RDONLY);
     must(file >= 0, path);
-    while (has_open_gate(file))
+    while (commits_in_log(file) > 0)
         usleep(200);
-    must(syscall(SYS_fdatasync, file) == 0 && close(file) == 0, "the sync behind the gates");
+    must(syscall(SYS_fdatasync, file) == 0 && close(file) == 0, "the sync behind the start");
 }
 
 static const struct way *way_of(const char *name)
@@ -217,8 +202,8 @@ static void print_counts(const long sums[COUNTS], const long whole[COUNTS])
     printf("%ld %ld %ld\n", whole[WRITES], whole[BYTES], whole[SYNCS]);
 }
 
-/* The last sync of a commit comes after its gate is closed, or the start of its log counts, where a way may end its
-   wait: it is waited for. A commit of layout 6 has one less. */
+/* The last sync of a commit comes after the start behind it counts, where a way may end its wait: it is waited for. A
+   commit of layout 6 has one less. */
 static void wait_for_syncs(long before)
 {
     long syncs = volumes.layout == 6 ? 3 : 4;
@@ -295,20 +280,20 @@ static void count_row(const struct way *way, int commits)
     print_counts(sums, whole);
 }
 
-/* The layout and the slots of volumes, and the pages of a commit. */
+/* The layout of volumes, the records of their greatest commit, and the pages of a commit. */
 static void take_shapes(char **words)
 {
-    int layout = atoi(words[0]), slots = atoi(words[1]);
-    must(layout >= 1 && layout <= (int)LAYOUTS && slots > 0, "LAYOUT and SLOTS");
-    volumes = (struct volumes){(unsigned)layout, (unsigned)slots};
+    int layout = atoi(words[0]), records = atoi(words[1]);
+    must(layout >= (int)FIRST_LAYOUT && layout <= (int)LAYOUTS && records > 0, "LAYOUT and RECORDS");
+    volumes = (struct volumes){(unsigned)layout, (unsigned)records};
     pages = (struct pages){atoi(words[2]), atoi(words[3]), strcmp(words[3], "anywhere") == 0};
-    must(pages.count > 0 && pages.count + has_lengths(volumes.layout) <= slots, "PAGES");
+    must(pages.count > 0 && pages.count < records, "PAGES");
     must(pages.apart > 0 || pages.anywhere || strcmp(words[3], "aside") == 0, "APART");
 }
 
 int main(int count, char **words)
 {
-    static const char usage[] = "usage: peers turns|rows|counted|counted-row LAYOUT SLOTS PAGES APART COUNT ..";
+    static const char usage[] = "usage: peers turns|rows|counted|counted-row LAYOUT RECORDS PAGES APART COUNT ..";
     must(count >= 8, usage);
     take_shapes(words + 2);
     if (strcmp(words[1], "turns") == 0)

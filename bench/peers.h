@@ -32,9 +32,9 @@ extern struct pages pages;
 /* The number of the page that is page `index` of commit `number`. */
 size_t page_of(int index, int number);
 
-/* The volumes have this layout, and this number of slots in each journal. */
+/* The volumes have this layout. Their logs have room for a commit of `records` records. */
 struct volumes {
-    unsigned layout, slots;
+    unsigned layout, records;
 };
 
 extern struct volumes volumes;
@@ -47,7 +47,7 @@ size_t bytes_of_file(void);
 /* Makes the same volume, but as a hole: it writes only the blocks that aren't zeros. */
 void make_hole(const char *path);
 
-/* Waits until all commits of a volume are written home. Then its gates are closed. counted.c
+/* Waits until all commits of a volume are written home. Then its log has no commit. counted.c
    doesn't count the calls of this function. */
 void wait_until_home(const char *path);
 

@@ -3,14 +3,16 @@
  *
  *   signals       the library: the first store to a page raises SIGSEGV
  *   kernel        the library: the kernel notes stores
- *   hand-signals  by hand, the same way: a private mapping of the volume's file, whose pages a handler opens; a commit
+ *   hand-signals  by hand, the same way: a private mapping of the file, whose pages a handler opens; a commit
  *                 closes all pages from the first open one to the last by one call
  *   hand-pages    the same, and a commit closes each page by a call of its own
  *   hand-kernel   by hand: userfaultfd with asynchronous write protection, and two scans for each commit, of which the
  *                 second one finds stores that came as pages were copied
  *
- * By hand a page is copied once, into the journal's bytes, and written home from there. Each way has a volume of its
- * own that begins as a hole, and loads each page of its memory before the first commit.
+ * The volumes of the library have layout 5. By hand there is a file with one journal (layout 1 of docs/FORMATS.md),
+ * since a commit makes the same calls for it up to its acknowledgement. A page is copied once, into the journal's bytes,
+ * and written home from there. Each file begins as a hole, and each way loads each page of its memory before the first
+ * commit.
  */
 #include "peers.h"
 
@@ -181,10 +183,9 @@ static void put_number(unsigned char *bytes, unsigned count, uint64_t number)
 
 static void begin_hand(struct hand *hand, int protection)
 {
-    must(volumes.layout == 1 && volumes.slots == SLOTS, "by hand there is no other volume");
-    make_hole(hand->path);
-    hand->file = open(hand->path, O_RDWR);
+    hand->file = open(hand->path, O_RDWR | O_CREAT | O_TRUNC, 0666);
     must(hand->file >= 0, hand->path);
+    must(ftruncate(hand->file, (off_t)HOME * PAGE + (off_t)bytes_of_file()) == 0, hand->path);
     hand->memory = mmap(NULL, bytes_of_file(), protection, MAP_PRIVATE | MAP_NORESERVE, hand->file, (off_t)HOME * PAGE);
     must(hand->memory != MAP_FAILED, "mmap");
     hand->journal = anonymous((size_t)(1 + SLOTS) * PAGE);
@@ -426,8 +427,8 @@ static void end_scanned(void)
 const struct way ways_tracked[] = {
     {"signals", "signals.vol", begin_signals, commit_signals, finish_signals, end_signals},
     {"kernel", "kernel.vol", begin_kernel, commit_kernel, finish_kernel, end_kernel},
-    {"hand-signals", "hand_signals.vol", begin_spans, commit_spans, finish_spans, end_spans},
-    {"hand-pages", "hand_pages.vol", begin_singles, commit_singles, finish_singles, end_singles},
-    {"hand-kernel", "hand_kernel.vol", begin_scanned, commit_scanned, finish_scanned, end_scanned},
+    {"hand-signals", NULL, begin_spans, commit_spans, finish_spans, end_spans},
+    {"hand-pages", NULL, begin_singles, commit_singles, finish_singles, end_singles},
+    {"hand-kernel", NULL, begin_scanned, commit_scanned, finish_scanned, end_scanned},
     {0},
 };

@@ -177,7 +177,7 @@ struct famsync_new_file {
    fields at the end. */
 struct famsync_plan {
     size_t size;
-    unsigned layout; /* 1 to 6; 0 means 4 */
+    unsigned layout; /* 1 to 6; 0 means 5 */
     /* The number of slots of each journal. A slot has room for one page.
        Layouts 1 and 2: 1 to 1,020; 0 means 1,020.
        Layout 3: 2 to 1,020; 0 means 1,020.

@@ -13,7 +13,7 @@
 #include <sys/syscall.h>
 #include <unistd.h>
 
-#define DEFAULT_LAYOUT 4u
+#define DEFAULT_LAYOUT 5u
 #define DEFAULT_SLOTS 1024u
 #define MOST_SLOTS_IN_ONE_BLOCK 1020u
 #define DEFAULT_LOG 16384u

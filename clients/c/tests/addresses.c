@@ -24,7 +24,7 @@ static unsigned char *free_address(void)
 
 static void make(void)
 {
-    make_volume_of(4, 20, "a=20000/65536 b=8192");
+    make_volume_of(FIRST_LAYOUT, 20, "a=20000/65536 b=8192");
 }
 
 /* A list, the first node of which is the last that was added. */

@@ -83,7 +83,7 @@ static void is_not_made(int answer, int code)
 
 int main(void)
 {
-    make_volume_of(3, 16, "a=4096");
+    make_volume_of(FIRST_LAYOUT, 16, "a=4096");
     for (int answer = -64; answer <= 64; answer++)
         any_answer(answer);
     unknown_answer(-99);

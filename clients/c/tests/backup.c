@@ -80,14 +80,13 @@ static void holds_what_was_committed(unsigned layout)
     int file = new_file();
     memset(other, 0xEE, sizeof other);
     WANT(write(file, other, sizeof other) == (ssize_t)sizeof other);
-    make_volume_of(layout, SLOTS, has_lengths(layout) ? "a=100000 b=5000/9000" : "a=100000 b=5000");
+    make_volume_of(layout, SLOTS, "a=100000 b=5000/9000");
     famsync *handle = opened_with((struct famsync_options){.foreground = 1});
     for (size_t i = 0; i < sizeof bytes; i++)
         bytes[i] = (unsigned char)(i * 7 + i / 4096 * 13 + 1);
     memset(bytes + 40000, 0, 20000);
     WANT_CODE(famsync_write(handle, 0, 0, bytes, sizeof bytes, NULL), FAMSYNC_OK);
-    if (has_lengths(layout))
-        WANT_CODE(famsync_setlength(handle, "b", 8999), FAMSYNC_OK);
+    WANT_CODE(famsync_setlength(handle, "b", 8999), FAMSYNC_OK);
     WANT_CODE(famsync_msync(handle, NULL), FAMSYNC_OK);
     WANT_CODE(famsync_write(handle, 0, 0, other, 5000, NULL), FAMSYNC_OK);
     WANT_CODE(famsync_write(handle, 1, 0, other, 10, NULL), FAMSYNC_OK);
@@ -95,7 +94,7 @@ static void holds_what_was_committed(unsigned layout)
     WANT(close(file) == 0);
     want_file(0, bytes, sizeof bytes);
     memset(other, 0, sizeof other);
-    want_file(1, other, has_lengths(layout) ? 8999 : 5000);
+    want_file(1, other, 8999);
     WANT_CODE(famsync_msync(handle, NULL), FAMSYNC_OK);
     WANT_CODE(famsync_close(handle), FAMSYNC_OK);
 }
@@ -163,7 +162,7 @@ static void has_own_key(void)
         WANT(close(file) == 0);
     }
     WANT_CODE(famsync_close(handle), FAMSYNC_OK);
-    copy_blocks(name[0], name[2], 0, first_home(6, SLOTS) + 3);
+    copy_blocks(name[0], name[2], 0, first_home(SLOTS) + 3);
     WANT(key_of(volume) == LOG_KEY && key_of(name[0]) != LOG_KEY && key_of(name[1]) != LOG_KEY);
     WANT(key_of(name[0]) != key_of(name[1]) && key_of(name[0]) == key_of(name[2]));
     for (unsigned i = 0; i < 3; i++)
@@ -178,13 +177,13 @@ static void has_holes(void)
 {
     struct stat found;
     int file = new_file();
-    make_volume_of(4, 1020, "a=40960000");
+    make_volume_of(FIRST_LAYOUT, 1020, "a=40960000");
     famsync *handle = opened();
     WANT_CODE(famsync_write(handle, 0, 20000000, "x", 1, NULL), FAMSYNC_OK);
     WANT_CODE(famsync_msync(handle, NULL), FAMSYNC_OK);
     WANT_CODE(famsync_backup(handle, file), FAMSYNC_OK);
     WANT(fstat(file, &found) == 0 && found.st_blocks * 512 < 200000 && close(file) == 0);
-    WANT(found.st_size == (off_t)(first_home(4, 1020) + 1 + 10000) * 4096);
+    WANT(found.st_size == (off_t)(first_home(1020) + 1 + 10000) * 4096);
     WANT_CODE(famsync_close(handle), FAMSYNC_OK);
     famsync *backup = opened_backup(0);
     unsigned char byte;
@@ -208,7 +207,7 @@ static void refusals(void)
 {
     char other[120];
     int file = new_file(), pipes[2], again;
-    make_volume_of(4, SLOTS, "a=100000");
+    make_volume_of(FIRST_LAYOUT, SLOTS, "a=100000");
     session = opened();
     want_refused(-1, FAMSYNC_ARGUMENT);
     errno = 0;
@@ -285,7 +284,7 @@ static void without_room(void)
     static unsigned char bytes[2000000];
     int file = new_file();
     famsync *backup;
-    make_volume_of(4, 1020, "a=2000000");
+    make_volume_of(FIRST_LAYOUT, 1020, "a=2000000");
     session = opened_with((struct famsync_options){.foreground = 1});
     memset(bytes, 3, sizeof bytes);
     WANT_CODE(famsync_write(session, 0, 0, bytes, sizeof bytes, NULL), FAMSYNC_OK);
@@ -319,7 +318,7 @@ static void by_a_reader(void)
 {
     static unsigned char bytes[100000];
     int file = new_file();
-    make_volume_of(3, SLOTS, "a=100000");
+    make_volume_of(FIRST_LAYOUT, SLOTS, "a=100000");
     session = opened();
     memset(bytes, 9, sizeof bytes);
     WANT_CODE(famsync_write(session, 0, 0, bytes, sizeof bytes, NULL), FAMSYNC_OK);
@@ -402,7 +401,7 @@ int main(int count, char **words)
 {
     make_folder();
     snprintf(path, sizeof path, "%s/backup.img", folder);
-    for (unsigned layout = 1; layout <= LAYOUTS; layout++) {
+    for (unsigned layout = FIRST_LAYOUT; layout <= LAYOUTS; layout++) {
         holds_what_was_committed(layout);
         one_at_a_time(layout);
     }
@@ -411,7 +410,7 @@ int main(int count, char **words)
     refusals();
     without_room();
     by_a_reader();
-    for (unsigned layout = 3; layout <= LAYOUTS; layout++)
+    for (unsigned layout = FIRST_LAYOUT; layout <= LAYOUTS; layout++)
         for (int foreground = 0; foreground < 2; foreground++)
             beside_commits(layout, foreground);
     if (count > 1)

@@ -18,6 +18,7 @@
 #define PAGES 40u
 #define ACCOUNTS (PAGES - 2) /* of each thread: one in each page but the two of the notes */
 #define SLOTS 60u
+#define COUNT (LAYOUTS - FIRST_LAYOUT + 1)
 
 /* What the process that was killed knew: of each thread, how many of its transfers were acknowledged. */
 static struct {
@@ -247,25 +248,25 @@ static void kill_one(void)
 /* Banks in volumes of each layout, in turns. */
 static void kill_banks(unsigned times, int tracking, bool with_pauses)
 {
-    uint64_t before[LAYOUTS][THREADS] = {0};
+    uint64_t before[COUNT][THREADS] = {0};
     options = (struct famsync_options){.size = sizeof options, .tracking = tracking};
     pauses = with_pauses;
     memset(known, 0, sizeof *known);
     kills = halves = 0;
     make_folder();
     for (unsigned turn = 0; turn < times; turn++) {
-        unsigned layout = 1 + turn % LAYOUTS;
+        unsigned layout = FIRST_LAYOUT + turn % COUNT;
         snprintf(volume, sizeof volume, "%s/v%u.img", folder, layout);
-        if (turn < LAYOUTS)
+        if (turn < COUNT)
             make_volume_of(layout, SLOTS, "bank=163840");
         for (unsigned thread = 0; thread < THREADS; thread++)
-            atomic_store(&known->acknowledged[thread], before[layout - 1][thread]);
+            atomic_store(&known->acknowledged[thread], before[layout - FIRST_LAYOUT][thread]);
         seed++;
         options.foreground = rand() % 2;
         kill_one();
         judge_all();
         for (unsigned thread = 0; thread < THREADS; thread++)
-            before[layout - 1][thread] = atomic_load(&known->acknowledged[thread]);
+            before[layout - FIRST_LAYOUT][thread] = atomic_load(&known->acknowledged[thread]);
     }
 }
 

@@ -108,10 +108,7 @@ int main(void)
     for (int tracking = FAMSYNC_TRACK_SIGNALS; tracking <= FAMSYNC_TRACK_KERNEL; tracking++) {
         if (tracking == FAMSYNC_TRACK_KERNEL && !is_tracked())
             break;
-        stays_below(1, tracking, 0);
-        stays_below(4, tracking, 0);
-        stays_below(4, tracking, 1);
-        for (unsigned layout = JOURNAL_LAYOUTS + 1; layout <= LAYOUTS; layout++)
+        for (unsigned layout = FIRST_LAYOUT; layout <= LAYOUTS; layout++)
             for (int foreground = 0; foreground < 2; foreground++)
                 stays_below(layout, tracking, foreground);
     }

@@ -70,10 +70,10 @@ static void while_others_store(void)
     pthread_t thread[WORKERS];
     famsync *second;
     void *ends[WORKERS];
-    make_volume_of(4, 200, "a=196608 b=8192");
+    make_volume_of(FIRST_LAYOUT, 200, "a=196608 b=8192");
     snprintf(other, sizeof other, "%s/other.img", folder);
     WANT(rename(volume, other) == 0);
-    make_volume_of(4, 200, "a=196608 b=8192");
+    make_volume_of(FIRST_LAYOUT, 200, "a=196608 b=8192");
     famsync *first = opened_with(options);
     WANT_CODE(famsync_open(other, &options, &second), FAMSYNC_OK);
     famsync_memory *memory = memory_of(first, "a");
@@ -109,7 +109,7 @@ static void jump_back(int number)
 static void after_the_close(void)
 {
     int status;
-    make_volume_of(4, 20, "a=65536 b=8192");
+    make_volume_of(FIRST_LAYOUT, 20, "a=65536 b=8192");
     pid_t child = fork();
     if (child == 0) {
         struct sigaction action = {.sa_handler = jump_back};

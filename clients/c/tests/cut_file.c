@@ -48,7 +48,7 @@ static void in_child(void)
     unsigned char *at = famsync_memory_at(memory);
     at[0] = at[15 * 4096] = 1;
     WANT_CODE(famsync_msync(handle, NULL), FAMSYNC_OK);
-    WANT(truncate(volume, (off_t)(first_home(1, 20) + LEFT) * 4096) == 0);
+    WANT(truncate(volume, (off_t)(first_home(21) + 1 + LEFT) * 4096) == 0);
     for (unsigned page = 0; page < 16; page++) /* also one that was stored to */
         WANT(is_there(at + page * 4096) == (page < LEFT || options.resident));
     if (options.tracking == FAMSYNC_TRACK_SIGNALS) { /* the kernel notes what is gone as stored, which a commit loads */
@@ -58,7 +58,7 @@ static void in_child(void)
     }
     WANT_CODE(famsync_memory_close(memory), FAMSYNC_OK);
     WANT_CODE(famsync_close(handle), FAMSYNC_OK);
-    WANT(truncate(volume, (off_t)(first_home(1, 20) + LEFT) * 4096) == 0);
+    WANT(truncate(volume, (off_t)(first_home(21) + 1 + LEFT) * 4096) == 0);
     want_damaged();
     raise(SIGKILL); /* so that nothing that watches says how it ends */
 }
@@ -66,7 +66,7 @@ static void in_child(void)
 static void cut_off(void)
 {
     int status;
-    make_volume_of(1, 20, "a=65536");
+    make_volume_of(FIRST_LAYOUT, 21, "a=65536");
     pid_t child = fork();
     if (child == 0)
         in_child();

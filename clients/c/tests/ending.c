@@ -6,7 +6,7 @@
 
 static void in_the_background(void)
 {
-    for (unsigned layout = 1; layout <= LAYOUTS; layout++) {
+    for (unsigned layout = FIRST_LAYOUT; layout <= LAYOUTS; layout++) {
         make_volume_of(layout, 16, "a=65536");
         famsync *handle = opened();
         uint64_t mark;
@@ -15,7 +15,7 @@ static void in_the_background(void)
             WANT_CODE(famsync_write(handle, 0, round * 512, &round, 8, NULL), FAMSYNC_OK);
             WANT_CODE(famsync_msync(handle, &mark), FAMSYNC_OK);
             WANT(mark == round);
-            for (; open_gates(layout, 16) > 0; waited++) {
+            for (; commits_left() > 0; waited++) {
                 WANT(waited < 20000);
                 usleep(1000);
             }
@@ -33,10 +33,10 @@ static void in_the_foreground(unsigned layout)
         WANT_CODE(famsync_write(handle, 0, round * 4096, &round, 8, NULL), FAMSYNC_OK);
         WANT_CODE(famsync_msync(handle, NULL), FAMSYNC_OK);
         usleep(2000);
-        WANT(may_be_left(layout, 16, (unsigned)round, open_gates(layout, 16)));
+        WANT(may_be_left(16, (unsigned)round, commits_left()));
     }
     WANT_CODE(famsync_close(handle), FAMSYNC_OK);
-    WANT(open_gates(layout, 16) == 0);
+    WANT(commits_left() == 0);
     handle = opened();
     for (uint64_t round = 1; round <= 5; round++) {
         WANT_CODE(famsync_read(handle, 0, round * 4096, &value, 8, NULL), FAMSYNC_OK);
@@ -46,10 +46,10 @@ static void in_the_foreground(unsigned layout)
 }
 
 /* A session that is cut off after its commits: the next one carries out what is left of them, in each layout and from
-   any journal on. */
+   any place of the log on. */
 static void cut_off(void)
 {
-    for (unsigned layout = 1; layout <= LAYOUTS; layout++)
+    for (unsigned layout = FIRST_LAYOUT; layout <= LAYOUTS; layout++)
         for (uint64_t rounds = 1; rounds <= 9; rounds++) {
             int status;
             make_volume_of(layout, 16, "a=65536");
@@ -64,9 +64,9 @@ static void cut_off(void)
                 kill(getpid(), SIGKILL);
             }
             WANT(waitpid(child, &status, 0) == child && WIFSIGNALED(status));
-            WANT(may_be_left(layout, 16, (unsigned)rounds, open_gates(layout, 16)));
+            WANT(may_be_left(16, (unsigned)rounds, commits_left()));
             famsync *handle = opened();
-            WANT(open_gates(layout, 16) == 0);
+            WANT(commits_left() == 0);
             uint64_t value;
             for (uint64_t round = 0; round <= rounds; round++) {
                 WANT_CODE(famsync_read(handle, 0, round * 4096, &value, 8, NULL), FAMSYNC_OK);
@@ -76,7 +76,7 @@ static void cut_off(void)
         }
 }
 
-/* Commits of 1,500 pages in layout 4, whose descriptors have two blocks; each page has its number and that of the
+/* Commits of 1,500 pages, whose descriptors have two blocks; each page has its number and that of the
    commit. Three of them were acknowledged when the session is cut off, and the next session has them. */
 #define LARGE 1500u
 
@@ -92,7 +92,7 @@ static void large_commits(void)
 {
     unsigned char byte = 1;
     int status;
-    make_volume_of(4, LARGE + 1, "a=6160384 b=5000/9000"); /* `a` has 1,504 pages */
+    make_volume_of(FIRST_LAYOUT, LARGE + 1, "a=6160384 b=5000/9000"); /* `a` has 1,504 pages */
     pid_t child = fork();
     if (child == 0) {
         famsync *handle = opened_with((struct famsync_options){.foreground = 1});
@@ -105,9 +105,9 @@ static void large_commits(void)
         kill(getpid(), SIGKILL);
     }
     WANT(waitpid(child, &status, 0) == child && WIFSIGNALED(status));
-    WANT(may_be_left(4, LARGE + 1, 3, open_gates(4, LARGE + 1)));
+    WANT(may_be_left(LARGE + 1, 3, commits_left()));
     famsync *handle = opened();
-    WANT(open_gates(4, LARGE + 1) == 0);
+    WANT(commits_left() == 0);
     WANT(famsync_frames(handle) == LARGE && famsync_file_length(handle, 1) == 4997);
     uint64_t words[2];
     for (uint64_t page = 0; page < LARGE; page++) {
@@ -119,7 +119,7 @@ static void large_commits(void)
     WANT_CODE(famsync_msync(handle, NULL), FAMSYNC_OK);
     WANT_CODE(famsync_write(handle, 0, LARGE * 4096, &byte, 1, NULL), FAMSYNC_OK);
     WANT_CODE(famsync_close(handle), FAMSYNC_OK);
-    WANT(open_gates(4, LARGE + 1) == 0);
+    WANT(commits_left() == 0);
 }
 
 static void in_child(famsync *handle, famsync_memory *memory)
@@ -192,7 +192,7 @@ static void forked_meanwhile(void)
 {
     pthread_t thread;
     int status;
-    make_volume_of(2, 16, "a=65536");
+    make_volume_of(FIRST_LAYOUT, 16, "a=65536");
     famsync *handle = opened();
     WANT(pthread_create(&thread, NULL, commits, handle) == 0);
     for (unsigned i = 0; i < 30; i++) {
@@ -224,7 +224,7 @@ static void *shares(void *argument)
 static void shared_commits(void)
 {
     pthread_t thread[4];
-    make_volume_of(2, 16, "a=65536");
+    make_volume_of(FIRST_LAYOUT, 16, "a=65536");
     famsync *handle = opened();
     for (unsigned i = 0; i < 4; i++)
         WANT(pthread_create(&thread[i], NULL, shares, handle) == 0);
@@ -242,7 +242,7 @@ static void two_volumes(void)
     make_volume(16, "a=65536");
     snprintf(moved, sizeof moved, "%s/w.img", folder);
     WANT(rename(volume, moved) == 0);
-    make_volume_of(3, 16, "b=5000/9000");
+    make_volume_of(FIRST_LAYOUT, 16, "b=5000/9000");
     first = opened();
     WANT_CODE(famsync_open(moved, NULL, &second), FAMSYNC_OK);
     for (unsigned char i = 1; i < 20; i++) {
@@ -258,7 +258,7 @@ static void two_volumes(void)
 int main(void)
 {
     in_the_background();
-    for (unsigned layout = 1; layout <= LAYOUTS; layout++)
+    for (unsigned layout = FIRST_LAYOUT; layout <= LAYOUTS; layout++)
         in_the_foreground(layout);
     cut_off();
     large_commits();

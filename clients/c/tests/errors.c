@@ -6,7 +6,7 @@
 #include <sys/uio.h>
 
 #define SLOTS 8u
-#define FRAMES "7" /* how many pages a commit has in layout 4, whose lengths take a slot */
+#define FRAMES "7" /* how many pages a commit has, as the lengths take a record */
 
 /* Whether reads and writes of a volume fail. */
 static atomic_bool reads_fail, writes_fail;
@@ -315,7 +315,7 @@ static void forked(void)
 int main(void)
 {
     want_text(NULL, "", __LINE__);
-    make_volume_of(4, SLOTS, "a=131072 b=8192/40000 empty=0/4096");
+    make_volume_of(FIRST_LAYOUT, SLOTS, "a=131072 b=8192/40000 empty=0/4096");
     open_arguments();
     openings();
     formats();

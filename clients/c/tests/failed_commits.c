@@ -259,7 +259,7 @@ int main(void)
     static void (*const THEN[])(enum failure) = {shrink, grow, roll_back};
     unsigned failed[FAILURES] = {0};
     for (unsigned way = 0; way < 3; way++)
-        for (layout = 3; is_set(way) && layout <= LAYOUTS; layout++)
+        for (layout = FIRST_LAYOUT; is_set(way) && layout <= LAYOUTS; layout++)
             for (unsigned i = 0; i < 3; i++)
                 for (enum failure failure = 0; failure < FAILURES; failure++)
                     failed[failure] += each(failure, THEN[i]);

@@ -1,8 +1,11 @@
 /* A read that fails is answered by FAMSYNC_DEVICE, with how many bytes came before, and the session goes on: the call
-   may be made again. A commit reads nothing. */
+   may be made again. A commit reads nothing in layout 6; log.c has those of layout 5, which may read a block. */
 #include "test.h"
 
 #include <sys/syscall.h>
+
+/* The log has room for all commits of a session, so that none of them is written home by another one. */
+#define ROOM 60
 
 /* Reads from this offset on fail, where it isn't 0. */
 static off_t fails_from;
@@ -20,7 +23,7 @@ static famsync *handle;
 
 static void begin(void)
 {
-    make_volume(4, "a=2097152"); /* more than what the library keeps of its reads */
+    make_volume_of(LAYOUTS, ROOM, "a=2097152"); /* more than what the library keeps of its reads */
     handle = opened_with((struct famsync_options){.foreground = 1});
 }
 
@@ -46,7 +49,7 @@ static void reads_and_writes(void)
 /* The offset of a page of the file in the volume. */
 static off_t place_of(unsigned page)
 {
-    return (off_t)(first_home(1, 4) + page) * 4096;
+    return (off_t)(first_home(ROOM) + 1 + page) * 4096;
 }
 
 /* Some pages at the begin of a range can be read, and those behind them can't. What is read ahead in one call fails as
@@ -78,7 +81,7 @@ static void in_the_middle(void)
 static void whole_pages(void)
 {
     static unsigned char bytes[3 * 4096];
-    make_volume(8, "a=10000");
+    make_volume_of(LAYOUTS, 9, "a=10000");
     handle = opened_with((struct famsync_options){.foreground = 1});
     memset(bytes, 5, sizeof bytes);
     fails_from = 1;
@@ -114,7 +117,7 @@ static void commits(void)
 static void others(int resident)
 {
     famsync_memory *memory;
-    make_volume_of(4, 8, "a=5000/9000");
+    make_volume_of(FIRST_LAYOUT, 8, "a=5000/9000");
     handle = opened_with(
         (struct famsync_options){.size = sizeof(struct famsync_options), .foreground = 1, .resident = resident});
     fails_from = 1;

@@ -26,6 +26,7 @@ ssize_t pwritev(int file, const struct iovec *range, int count, off_t offset)
 }
 
 static famsync *handle;
+static famsync_memory *memory;
 
 static void begin(void)
 {
@@ -35,6 +36,7 @@ static void begin(void)
     atomic_store(&waiting, 0);
     make_volume(16, "a=65536");
     handle = opened();
+    WANT_CODE(famsync_memory_open(handle, "a", &memory), FAMSYNC_OK);
     WANT_CODE(famsync_write(handle, 0, 0, &number, sizeof number, NULL), FAMSYNC_OK);
 }
 
@@ -43,6 +45,7 @@ static void end(int error)
 {
     unsigned char byte;
     WANT_CODE(famsync_read(handle, 0, 0, &byte, 1, NULL), FAMSYNC_BROKEN);
+    WANT_CODE(famsync_memory_close(memory), FAMSYNC_OK);
     errno = 0;
     WANT_CODE(famsync_close(handle), FAMSYNC_DEVICE);
     WANT(errno == error);
@@ -63,9 +66,10 @@ static void in_the_background(void)
     end(ENOSPC);
 }
 
-/* A commit of a thread; and what it was answered, with errno. */
+/* A commit of a thread, with a store to a page; and what it was answered, with errno. */
 struct commit {
     pthread_t thread;
+    unsigned page;
     bool spared;
     int code, error;
 };
@@ -74,6 +78,7 @@ static void *commit(void *argument)
 {
     struct commit *mine = argument;
     spared = mine->spared;
+    ((unsigned char *)famsync_memory_at(memory))[mine->page * 4096] = 1;
     errno = 0;
     mine->code = famsync_msync(handle, NULL);
     mine->error = errno;
@@ -84,7 +89,7 @@ static void *commit(void *argument)
    over. */
 static void shared(void)
 {
-    struct commit first = {.spared = true}, next[2] = {{0}};
+    struct commit first = {.spared = true}, next[2] = {{.page = 1}, {.page = 2}};
     unsigned shared_by = 0;
     begin();
     atomic_store(&held, true);

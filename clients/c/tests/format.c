@@ -10,13 +10,12 @@
 static char message[FAMSYNC_MESSAGE_SIZE];
 static struct famsync_new_file files[65];
 
-/* The log of a layout that has one is as long as `make_volume_of` makes it. */
-static struct famsync_plan plan_of(unsigned layout, unsigned slots, unsigned count)
+/* The log is as long as `make_volume_of` makes it. */
+static struct famsync_plan plan_of(unsigned layout, unsigned records, unsigned count)
 {
     return (struct famsync_plan){.size = sizeof(struct famsync_plan),
                                  .layout = layout,
-                                 .slots = has_log(layout) ? 0 : slots,
-                                 .log = has_log(layout) ? log_blocks(slots) : 0,
+                                 .log = log_blocks(records),
                                  .key = layout == 6 ? LOG_KEY : 0,
                                  .files = count,
                                  .file = files,
@@ -72,18 +71,18 @@ static unsigned char *bytes_of(size_t *count)
 }
 
 /* The same as a volume that is written byte by byte. */
-static void same_bytes(unsigned layout, unsigned slots, unsigned count)
+static void same_bytes(unsigned layout, unsigned records, unsigned count)
 {
     char text[4096] = "";
     size_t ours, theirs;
-    struct famsync_plan plan = plan_of(layout, slots, count);
+    struct famsync_plan plan = plan_of(layout, records, count);
     for (unsigned i = 0; i < count; i++) {
         size_t at = strlen(text);
         unsigned long long capacity = files[i].capacity ? files[i].capacity : files[i].length;
         snprintf(text + at, sizeof text - at, "%s=%llu/%llu ", files[i].name, (unsigned long long)files[i].length,
                  capacity);
     }
-    make_volume_of(layout, slots, text);
+    make_volume_of(layout, records, text);
     unsigned char *written = bytes_of(&theirs);
     remove_volume();
     WANT_CODE(famsync_format(volume, &plan), FAMSYNC_OK);
@@ -96,13 +95,13 @@ static void same_bytes(unsigned layout, unsigned slots, unsigned count)
 static void each_layout(void)
 {
     static char names[64][33];
-    for (unsigned layout = 1; layout <= LAYOUTS; layout++) {
+    for (unsigned layout = FIRST_LAYOUT; layout <= LAYOUTS; layout++) {
         files[0] = (struct famsync_new_file){"a", 1, 0};
-        same_bytes(layout, 1 + has_lengths(layout), 1);
-        same_bytes(layout, layout >= 4 ? 5000 : 1020, 1);
+        same_bytes(layout, 1, 1);
+        same_bytes(layout, 5000, 1);
         files[0] = (struct famsync_new_file){"!~names_of-32.characters,at+most", 8192, 8192};
-        files[1] = (struct famsync_new_file){"b", 4097, has_lengths(layout) ? 20000 : 4097};
-        files[2] = (struct famsync_new_file){"c", has_lengths(layout) ? 0 : 4096, 4096};
+        files[1] = (struct famsync_new_file){"b", 4097, 20000};
+        files[2] = (struct famsync_new_file){"c", 0, 4096};
         same_bytes(layout, 20, 3);
         for (unsigned i = 0; i < 64; i++) {
             snprintf(names[i], sizeof names[i], "file-%u", i);
@@ -112,16 +111,19 @@ static void each_layout(void)
     }
 }
 
-/* What is made is used; by default it has layout 4 and 1,024 slots. */
+/* What is made is used; by default it has layout 5. */
 static void is_used(void)
 {
     files[0] = (struct famsync_new_file){"a", 5000, 100000};
-    struct famsync_plan plan = plan_of(0, 0, 1);
+    struct famsync_plan plan = plan_of(0, 1000, 1);
+    struct famsync_volume_info info = {.size = sizeof info};
     char found[5];
     remove_volume();
     WANT_CODE(famsync_format(volume, &plan), FAMSYNC_OK);
     famsync *handle = opened();
-    WANT(famsync_frames(handle) == 1023 && famsync_files(handle) == 1 && famsync_file_length(handle, 0) == 5000);
+    WANT_CODE(famsync_volume_info(handle, &info), FAMSYNC_OK);
+    WANT(info.layout == 5 && info.log == log_blocks(1000));
+    WANT(famsync_frames(handle) == 999 && famsync_files(handle) == 1 && famsync_file_length(handle, 0) == 5000);
     WANT_CODE(famsync_setlength(handle, "a", 100000), FAMSYNC_OK);
     WANT_CODE(famsync_setlength(handle, "a", 100001), FAMSYNC_EINVAL);
     WANT_CODE(famsync_write(handle, 0, 99995, "hello", 5, NULL), FAMSYNC_OK);
@@ -133,7 +135,7 @@ static void is_used(void)
     WANT_CODE(famsync_close(handle), FAMSYNC_OK);
 }
 
-/* In layouts 5 and 6 it has a log of 64 MB by default, and in layout 6 a key that is drawn. */
+/* By default it has a log of 64 MB, and in layout 6 a key that is drawn. */
 static void has_default_log(unsigned layout)
 {
     unsigned char key[2][8];
@@ -173,37 +175,14 @@ static void bad_files(unsigned layout, struct famsync_new_file file, const char 
     is_refused(&plan, why);
 }
 
-/* Layouts 1 to 3 have fewer slots by default than layout 4. */
-static void has_default_slots(unsigned layout)
-{
-    struct famsync_plan plan = plan_of(layout, 0, 1);
-    files[0] = (struct famsync_new_file){"a", 5000, 0};
-    remove_volume();
-    WANT_CODE(famsync_format(volume, &plan), FAMSYNC_OK);
-    famsync *handle = opened();
-    WANT(famsync_frames(handle) == (layout == 4 ? 1023 : layout == 3 ? 1019 : 1020));
-    WANT_CODE(famsync_close(handle), FAMSYNC_OK);
-}
-
-/* A log that is too short or too long, or in a layout without one, and a key in a layout without one. */
+/* A log that is too short or too long, and a key in the layout without one. */
 static void bad_logs(unsigned layout)
 {
-    static const unsigned MOST[] = {1020, 1020, 1020, 65535};
     struct famsync_plan plan = plan_of(layout, 20, 1);
-    if (!has_log(layout)) {
-        plan.log = 64;
-        is_refused(&plan, "have a log");
-        plan = plan_of(layout, MOST[layout - 1] + 1, 1);
-        is_refused(&plan, "slots");
-    } else {
-        plan.log = 3;
-        is_refused(&plan, "4 to");
-        plan.log = (1u << 24) + 1;
-        is_refused(&plan, "4 to");
-        plan = plan_of(layout, 20, 1);
-        plan.slots = 20;
-        is_refused(&plan, "instead of slots");
-    }
+    plan.log = 3;
+    is_refused(&plan, "4 to");
+    plan.log = (1u << 24) + 1;
+    is_refused(&plan, "4 to");
     if (layout != 6) {
         plan = plan_of(layout, 20, 1);
         plan.key = 1;
@@ -213,7 +192,7 @@ static void bad_logs(unsigned layout)
 
 static void refusals(void)
 {
-    struct famsync_plan plan = plan_of(4, 20, 1);
+    struct famsync_plan plan = plan_of(FIRST_LAYOUT, 20, 1);
     struct {
         struct famsync_plan plan;
         char more;
@@ -228,7 +207,7 @@ static void refusals(void)
     longer.plan.size = sizeof longer;
     longer.more = 1;
     WANT_CODE(famsync_format(volume, &longer.plan), FAMSYNC_ARGUMENT);
-    for (unsigned layout = 1; layout <= LAYOUTS; layout++) {
+    for (unsigned layout = FIRST_LAYOUT; layout <= LAYOUTS; layout++) {
         bad_logs(layout);
         plan = plan_of(layout, 20, 0);
         is_refused(&plan, "files");
@@ -246,22 +225,18 @@ static void refusals(void)
         bad_files(layout, (struct famsync_new_file){"a", 2, 1}, "capacity");
         bad_files(layout, (struct famsync_new_file){"a", UINT64_MAX, 0}, "blocks");
         bad_files(layout, (struct famsync_new_file){"a", (uint64_t)UINT32_MAX * 4096, 0}, "blocks");
-        if (!has_lengths(layout))
-            bad_files(layout, (struct famsync_new_file){"a", 1, 2}, "layout");
         files[0] = files[1] = (struct famsync_new_file){"a", 1, 0};
         plan = plan_of(layout, 20, 2);
         is_refused(&plan, "same name");
     }
-    plan = plan_of(3, 1, 1);
-    is_refused(&plan, "slots");
     plan = plan_of(7, 20, 1);
     is_refused(&plan, "layout must be");
-    plan = plan_of(4, 20, 1);
+    plan = plan_of(FIRST_LAYOUT, 20, 1);
     plan.size = offsetof(struct famsync_plan, log); /* as an older program has it, whose bytes behind are others */
     plan.log = 5;
     WANT_CODE(famsync_format(volume, &plan), FAMSYNC_OK);
     remove_volume();
-    longer.plan = plan_of(1, 1, 1);
+    longer.plan = plan_of(FIRST_LAYOUT, 1, 1);
     longer.plan.size = sizeof longer;
     longer.more = 0;
     WANT_CODE(famsync_format(volume, &longer.plan), FAMSYNC_OK);
@@ -280,9 +255,9 @@ static void names(void)
 {
     static char path[400];
     size_t before, after;
-    struct famsync_plan plan = plan_of(4, 20, 1);
+    struct famsync_plan plan = plan_of(FIRST_LAYOUT, 20, 1);
     files[0] = (struct famsync_new_file){"a", 4096, 0};
-    make_volume_of(1, 20, "other=5000");
+    make_volume_of(FIRST_LAYOUT, 20, "other=5000");
     unsigned char *was = bytes_of(&before);
     fails_with(volume, &plan, EEXIST);
     unsigned char *is = bytes_of(&after);
@@ -358,7 +333,7 @@ static void at_once(void)
 static void large(void)
 {
     struct stat found;
-    struct famsync_plan plan = plan_of(4, 0, 1);
+    struct famsync_plan plan = plan_of(FIRST_LAYOUT, 20, 1);
     files[0] = (struct famsync_new_file){"a", (uint64_t)8 << 30, (uint64_t)16 << 30};
     WANT_CODE(famsync_format(volume, &plan), FAMSYNC_OK);
     WANT(stat(volume, &found) == 0 && found.st_size > (off_t)16 << 30 && found.st_blocks < 2048);
@@ -370,7 +345,7 @@ static void large(void)
     WANT(stat(volume, &found) == 0 && found.st_blocks < 2048);
     remove_volume();
     files[0] = (struct famsync_new_file){"a", 1000000, 0};
-    plan = plan_of(4, 20, 1);
+    plan = plan_of(FIRST_LAYOUT, 20, 1);
     plan.preallocate = 1;
     WANT_CODE(famsync_format(volume, &plan), FAMSYNC_OK);
     WANT(stat(volume, &found) == 0 && found.st_blocks * 512 >= found.st_size);
@@ -380,7 +355,7 @@ static void large(void)
 /* A file that may not be so long. */
 static void limited(void)
 {
-    struct famsync_plan plan = plan_of(4, 20, 1);
+    struct famsync_plan plan = plan_of(FIRST_LAYOUT, 20, 1);
     files[0] = (struct famsync_new_file){"a", 1000000, 0};
     int status;
     pid_t child = fork();
@@ -402,9 +377,7 @@ int main(void)
         all_are_named = way == 1;
         each_layout();
         is_used();
-        for (unsigned layout = 1; layout <= JOURNAL_LAYOUTS; layout++)
-            has_default_slots(layout);
-        for (unsigned layout = JOURNAL_LAYOUTS + 1; layout <= LAYOUTS; layout++)
+        for (unsigned layout = FIRST_LAYOUT; layout <= LAYOUTS; layout++)
             has_default_log(layout);
         refusals();
         names();

@@ -43,7 +43,7 @@ static unsigned waiting(void)
 static bool begins(void)
 {
     unlink(volume);
-    make_volume_of(layout, FRAMES + has_lengths(layout), "a=98304 b=98304 c=98304");
+    make_volume_of(layout, FRAMES + 1, "a=98304 b=98304 c=98304");
     int code = famsync_open(volume, &options, &handle);
     if (code == FAMSYNC_TRACKING && options.tracking == FAMSYNC_TRACK_KERNEL)
         return false;
@@ -187,7 +187,7 @@ static void any(void)
 int main(void)
 {
     make_folder();
-    for (layout = 1; layout <= LAYOUTS; layout++)
+    for (layout = FIRST_LAYOUT; layout <= LAYOUTS; layout++)
         for (unsigned way = 0; way < 3; way++) {
             options = (struct famsync_options){.size = sizeof options, .foreground = 1, .resident = way == 1};
             options.tracking = way == 2 ? FAMSYNC_TRACK_KERNEL : FAMSYNC_TRACK_SIGNALS;

@@ -134,13 +134,12 @@ static struct model {
 static void make(void)
 {
     char files[60];
-    snprintf(files, sizeof files, "a=%u b=%u/%u", A_MOST, has_lengths(layout) ? 0 : B_MOST, B_MOST);
+    snprintf(files, sizeof files, "a=%u b=0/%u", A_MOST, B_MOST);
     make_hole_of(layout, SLOTS, files);
     memset(&now, 0, sizeof now);
-    now.length = has_lengths(layout) ? 0 : B_MOST;
     committed = now;
     begin_disk(PLENTY);
-    for (unsigned block = 1; block < 4 && has_log(layout); block++)
+    for (unsigned block = 1; block < 4; block++)
         disk->allocated[block] = true; /* as famsync_format makes it */
 }
 
@@ -182,8 +181,6 @@ static void store(unsigned page)
 
 static void set_length(size_t length)
 {
-    if (!has_lengths(layout))
-        return;
     if (length < now.length)
         memset(now.b + length, 0, now.length - length);
     now.length = length;
@@ -218,7 +215,7 @@ static bool is_refused(void)
 static void open_full(void)
 {
     int room = atomic_exchange(&disk->room, 0);
-    if (open_gates(layout, SLOTS) == 0) {
+    if (commits_left() == 0) {
         begin(true, false);
         want_model(&committed);
         end();
@@ -313,15 +310,13 @@ static void open_new(void)
     make();
     begin_disk(0);
     int code = famsync_open(volume, NULL, &handle);
-    if (has_log(layout)) {
-        WANT_CODE(code, FAMSYNC_NOSPACE);
-        WANT(errno == ENOSPC && handle == NULL);
-        begin(true, false);
-        want_model(&committed);
-        WANT_CODE(famsync_close(handle), FAMSYNC_OK);
-        atomic_store(&disk->room, 2);
-        begin(false, false);
-    }
+    WANT_CODE(code, FAMSYNC_NOSPACE);
+    WANT(errno == ENOSPC && handle == NULL);
+    begin(true, false);
+    want_model(&committed);
+    WANT_CODE(famsync_close(handle), FAMSYNC_OK);
+    atomic_store(&disk->room, 2);
+    begin(false, false);
     atomic_store(&disk->unreserved, 0);
     end();
 }
@@ -330,18 +325,15 @@ static void open_formatted(void)
 {
     const struct famsync_new_file file = {"a", A_MOST, 0};
     struct famsync_plan plan = {.size = sizeof plan, .layout = layout, .files = 1, .file = &file};
-    if (has_log(layout))
-        plan.log = log_blocks(SLOTS);
-    else
-        plan.slots = SLOTS;
+    plan.log = log_blocks(SLOTS);
     WANT(unlink(volume) == 0);
     WANT_CODE(famsync_format(volume, &plan), FAMSYNC_OK);
     struct stat found;
     WANT(stat(volume, &found) == 0);
     begin_disk(0);
-    /* of a log, the blocks before it are written, also those of zeros */
+    /* the blocks before the log are written, also those of zeros */
     int blocks = open(volume, O_RDONLY | O_CLOEXEC);
-    for (off_t block = 0; has_log(layout) && block < 4; block++) {
+    for (off_t block = 0; block < 4; block++) {
         WANT(syscall(SYS_lseek, blocks, block * 4096, SEEK_DATA) == block * 4096);
         disk->allocated[block] = disk->data[block] = true;
     }
@@ -373,8 +365,6 @@ static void ask_once(void)
 /* A growth that is taken back needs no room. */
 static void take_growth_back(void)
 {
-    if (!has_lengths(layout))
-        return;
     make();
     begin(false, false);
     store(0);
@@ -434,7 +424,7 @@ int main(void)
     WANT(disk != MAP_FAILED);
     make_folder();
     WANT(chdir(folder) == 0);
-    for (layout = 1; layout <= LAYOUTS; layout++) {
+    for (layout = FIRST_LAYOUT; layout <= LAYOUTS; layout++) {
         unsigned refused = 0;
         for (unsigned i = 0; i < VOLUMES; i++)
             refused += fill_again_and_again();

@@ -200,7 +200,7 @@ static bool has_both(const int64_t *found, int64_t number)
 /* A commit waits for the open group, and a group that comes meanwhile waits for the commit. */
 static void commit_waits(void)
 {
-    begin_new(4, (struct famsync_options){0});
+    begin_new(FIRST_LAYOUT, (struct famsync_options){0});
     pthread_t first = begun_half(1), next, commits = begun_waiting(commit);
     next = begun(store_both, (void *)2);
     usleep(30000);
@@ -221,7 +221,7 @@ static void commit_waits(void)
 /* A group waits for the moment, and not for what the commit writes. */
 static void begin_during_syncs(void)
 {
-    begin_new(4, (struct famsync_options){.foreground = 1});
+    begin_new(FIRST_LAYOUT, (struct famsync_options){.foreground = 1});
     TOGGLE(words, 0) = TOGGLE(words, 1) = 1;
     atomic_store(&held, true);
     pthread_t commits = begun(commit, NULL);
@@ -239,7 +239,7 @@ static void begin_during_syncs(void)
 /* A rollback undoes all of a group, too; commits and rollbacks wait for the same group. */
 static void rollback_waits(void)
 {
-    begin_new(4, (struct famsync_options){0});
+    begin_new(FIRST_LAYOUT, (struct famsync_options){0});
     pthread_t first = begun_half(1), rolls = begun_waiting(roll_back);
     sem_post(&go);
     WANT_CODE(ended(first), FAMSYNC_OK);
@@ -282,7 +282,7 @@ static void *commit_in_a_row(void *argument)
 static void nobody_starves(void)
 {
     pthread_t thread[4];
-    begin_new(4, (struct famsync_options){0});
+    begin_new(FIRST_LAYOUT, (struct famsync_options){0});
     atomic_store(&stopped, false);
     for (unsigned i = 0; i < 4; i++)
         thread[i] = begun(overlap, NULL);
@@ -321,7 +321,7 @@ static uint64_t staged(void)
 
 static void refused(void)
 {
-    begin_new(4, (struct famsync_options){0});
+    begin_new(FIRST_LAYOUT, (struct famsync_options){0});
     WANT_CODE(famsync_begin(NULL), FAMSYNC_ARGUMENT);
     WANT_CODE(famsync_end(NULL), FAMSYNC_ARGUMENT);
     WANT_CODE(famsync_end(handle), FAMSYNC_ARGUMENT);
@@ -366,9 +366,9 @@ static void *begin_both(void *argument)
 
 static void several_volumes(void)
 {
-    make_volume_of(4, 20, "a=32768 b=4096");
+    make_volume_of(FIRST_LAYOUT, 20, "a=32768 b=4096");
     WANT(rename(volume, other) == 0);
-    begin_new(4, (struct famsync_options){0});
+    begin_new(FIRST_LAYOUT, (struct famsync_options){0});
     WANT_CODE(famsync_open(other, NULL, &second), FAMSYNC_OK);
     for (unsigned round = 0; round < 2; round++) {
         famsync *one = round ? handle : second, *two = round ? second : handle;
@@ -394,7 +394,7 @@ static void several_volumes(void)
 /* A failure ends the session while a commit waits for a group: groups still begin and end. */
 static void over_meanwhile(void)
 {
-    begin_new(4, (struct famsync_options){.foreground = 1});
+    begin_new(FIRST_LAYOUT, (struct famsync_options){.foreground = 1});
     WANT_CODE(famsync_write(handle, 1, 0, "b", 1, NULL), FAMSYNC_OK);
     WANT_CODE(famsync_msync(handle, NULL), FAMSYNC_OK);
     WANT_CODE(famsync_begin(handle), FAMSYNC_OK);
@@ -410,7 +410,7 @@ static void over_meanwhile(void)
     WANT_CODE(famsync_end(handle), FAMSYNC_OK);
     WANT_CODE(famsync_memory_close(memory), FAMSYNC_OK);
     WANT_CODE(famsync_close(handle), FAMSYNC_DEVICE);
-    make_volume_of(4, 100, "a=32768 b=4096");
+    make_volume_of(FIRST_LAYOUT, 100, "a=32768 b=4096");
     handle = opened_with((struct famsync_options){.trust = 1});
     WANT_CODE(famsync_close(handle), FAMSYNC_OK);
 }
@@ -446,7 +446,7 @@ static void is_torn(void)
 static void thread_ends(void)
 {
     int code = -1;
-    begin_new(4, (struct famsync_options){0});
+    begin_new(FIRST_LAYOUT, (struct famsync_options){0});
     pthread_t first = begun(end_halfway, NULL), waits;
     sem_post(&go);
     WANT(ended(first) == 0);
@@ -491,7 +491,7 @@ static void in_child(void)
 static void fork_within(void)
 {
     int status;
-    begin_new(4, (struct famsync_options){0});
+    begin_new(FIRST_LAYOUT, (struct famsync_options){0});
     pthread_t first = begun_half(1);
     WANT_CODE(famsync_begin(handle), FAMSYNC_OK);
     pid_t child = fork();
@@ -515,7 +515,7 @@ static void without_keys(void)
     int status;
     pid_t child = fork();
     if (child == 0) {
-        make_volume_of(4, 20, "a=32768 b=4096");
+        make_volume_of(FIRST_LAYOUT, 20, "a=32768 b=4096");
         handle = opened_with((struct famsync_options){.foreground = 1});
         while (pthread_key_create(&key, NULL) == 0)
             last = key;
@@ -535,7 +535,7 @@ static bool can_track(void)
 {
     struct famsync_options options = {.size = sizeof options, .tracking = FAMSYNC_TRACK_KERNEL};
     int code;
-    make_volume_of(4, 100, "a=32768 b=4096");
+    make_volume_of(FIRST_LAYOUT, 100, "a=32768 b=4096");
     code = famsync_open(volume, &options, &handle);
     return code == FAMSYNC_OK && famsync_close(handle) == FAMSYNC_OK;
 }
@@ -549,7 +549,7 @@ int main(void)
     snprintf(copy, sizeof copy, "%s/copy.img", folder);
     WANT(sem_init(&halfway, 0, 0) == 0 && sem_init(&go, 0, 0) == 0);
     without_keys();
-    transfers_between_commits(4, (struct famsync_options){0});
+    transfers_between_commits(FIRST_LAYOUT, (struct famsync_options){0});
     transfers_between_commits(LAYOUTS, (struct famsync_options){.foreground = 1});
     if (can_track())
         transfers_between_commits(LAYOUTS, tracked);

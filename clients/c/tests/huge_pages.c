@@ -51,7 +51,7 @@ static void session(int tracking)
     famsync_memory *memory;
     char file[40];
     snprintf(file, sizeof file, "a=%zu", LENGTH);
-    make_hole_of(4, 60, file);
+    make_hole_of(FIRST_LAYOUT, 60, file);
     int code = famsync_open(volume, &options, &handle);
     if (code == FAMSYNC_TRACKING)
         return;

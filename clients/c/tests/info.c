@@ -20,25 +20,25 @@ static uint64_t blocks_of_file(void)
 }
 
 /* The greatest commit of a volume that make_volume_of has made. */
-static uint64_t greatest_commit(unsigned layout)
+static uint64_t greatest_commit(void)
 {
     uint64_t records = SLOTS;
-    while (has_log(layout) && commit_blocks((unsigned)records + 1) < log_blocks(SLOTS))
+    while (commit_blocks((unsigned)records + 1) < log_blocks(SLOTS))
         records++;
-    return records - has_lengths(layout);
+    return records - 1;
 }
 
 static void parts(unsigned layout)
 {
-    make_volume_of(layout, SLOTS, has_lengths(layout) ? "a=65536 b=1/5000" : "a=65536 b=5000");
+    make_volume_of(layout, SLOTS, "a=65536 b=1/5000");
     famsync *handle = opened_with((struct famsync_options){.foreground = 1, .frames = 3});
     struct famsync_volume_info info = of(handle);
     WANT(info.layout == layout && info.blocks == blocks_of_file() && info.files == 2 && info.readonly == 0);
-    WANT(info.slots == (has_log(layout) ? 0 : SLOTS) && info.log == (has_log(layout) ? log_blocks(SLOTS) : 0));
-    WANT(info.log_used == 0 && info.frames == greatest_commit(layout) && famsync_frames(handle) == 3);
+    WANT(info.slots == 0 && info.log == log_blocks(SLOTS));
+    WANT(info.log_used == 0 && info.frames == greatest_commit() && famsync_frames(handle) == 3);
     WANT_CODE(famsync_write(handle, 0, 0, "x", 1, NULL), FAMSYNC_OK);
     WANT_CODE(famsync_msync(handle, NULL), FAMSYNC_OK);
-    WANT(of(handle).log_used == (has_log(layout) ? commit_blocks(1) : 0));
+    WANT(of(handle).log_used == commit_blocks(1));
     WANT_CODE(famsync_close(handle), FAMSYNC_OK);
     handle = opened_with((struct famsync_options){.readonly = 1});
     info = of(handle);
@@ -49,20 +49,15 @@ static void parts(unsigned layout)
 /* A length up to the capacity, and no greater one, can be set. */
 static void capacities(unsigned layout)
 {
-    make_volume_of(layout, SLOTS, has_lengths(layout) ? "a=65536 b=1/5000 c=0/1099511" : "a=65536 b=5000 c=1099511");
+    make_volume_of(layout, SLOTS, "a=65536 b=1/5000 c=0/1099511");
     famsync *handle = opened();
     WANT(famsync_capacity(handle, 0) == 65536 && famsync_capacity(handle, 1) == 5000);
     WANT(famsync_capacity(handle, 2) == 1099511 && famsync_capacity(handle, 3) == 0);
     WANT(famsync_capacity(NULL, 0) == 0);
     WANT_CODE(famsync_setlength(handle, "b", 5001), FAMSYNC_EINVAL);
     WANT(strcmp(famsync_error(handle), "famsync_setlength: the length 5001 exceeds the capacity of \"b\", 5000") == 0);
-    if (has_lengths(layout)) {
-        WANT_CODE(famsync_setlength(handle, "b", 5000), FAMSYNC_OK);
-        WANT(famsync_file_length(handle, 1) == 5000 && famsync_capacity(handle, 1) == 5000);
-    } else {
-        WANT_CODE(famsync_setlength(handle, "b", 4999), FAMSYNC_EINVAL);
-        WANT(strstr(famsync_error(handle), "in layout ") && strstr(famsync_error(handle), " never changes"));
-    }
+    WANT_CODE(famsync_setlength(handle, "b", 5000), FAMSYNC_OK);
+    WANT(famsync_file_length(handle, 1) == 5000 && famsync_capacity(handle, 1) == 5000);
     WANT_CODE(famsync_rollback(handle), FAMSYNC_OK);
     WANT(famsync_capacity(handle, 1) == 5000 && of(handle).layout == layout);
     WANT_CODE(famsync_close(handle), FAMSYNC_OK);
@@ -84,13 +79,13 @@ static void sizes(void)
     WANT_CODE(famsync_volume_info(NULL, &info), FAMSYNC_ARGUMENT);
     longer.info.size = sizeof longer.info + 2 * sizeof(uint64_t);
     WANT_CODE(famsync_volume_info(handle, &longer.info), FAMSYNC_OK);
-    WANT(longer.info.layout == 1 && longer.more[0] == 0 && longer.more[1] == 0 && longer.more[2] == 3);
+    WANT(longer.info.layout == FIRST_LAYOUT && longer.more[0] == 0 && longer.more[1] == 0 && longer.more[2] == 3);
     WANT_CODE(famsync_close(handle), FAMSYNC_OK);
 }
 
 int main(void)
 {
-    for (unsigned layout = 1; layout <= LAYOUTS; layout++) {
+    for (unsigned layout = FIRST_LAYOUT; layout <= LAYOUTS; layout++) {
         parts(layout);
         capacities(layout);
     }

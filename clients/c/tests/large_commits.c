@@ -52,7 +52,7 @@ static void leave_commit(unsigned layout, unsigned pages)
         _exit(0);
     }
     WANT(waitpid(child, &status, 0) == child && status == 0);
-    WANT(open_gates(layout, pages + 1) == 1);
+    WANT(commits_left() == 1);
 }
 
 static void judge(famsync *handle, unsigned pages)
@@ -93,7 +93,7 @@ static void in_layout(unsigned layout)
 
 int main(void)
 {
-    for (unsigned layout = JOURNAL_LAYOUTS; layout <= LAYOUTS && has_log(LAYOUTS); layout++)
+    for (unsigned layout = FIRST_LAYOUT; layout <= LAYOUTS; layout++)
         in_layout(layout);
     return 0;
 }

@@ -238,16 +238,6 @@ static void refusals(void)
     WANT_CODE(famsync_close(handle), FAMSYNC_OK);
 }
 
-static void without_lengths(void)
-{
-    make_volume_of(layout, 6, "a=5000");
-    famsync *handle = opened();
-    WANT_CODE(famsync_setlength(handle, "a", 5000), FAMSYNC_EINVAL);
-    WANT_CODE(famsync_setlength(handle, "a", 4000), FAMSYNC_EINVAL);
-    WANT_CODE(famsync_msync(handle, NULL), FAMSYNC_OK);
-    WANT_CODE(famsync_close(handle), FAMSYNC_OK);
-}
-
 static void *stores(void *argument)
 {
     famsync *handle = argument;
@@ -345,11 +335,7 @@ static void forked(void)
 
 int main(void)
 {
-    for (layout = 1; layout <= LAYOUTS; layout++) {
-        if (!has_lengths(layout)) {
-            without_lengths();
-            continue;
-        }
+    for (layout = FIRST_LAYOUT; layout <= LAYOUTS; layout++) {
         grows();
         shrinks();
         refusals();

@@ -73,11 +73,6 @@ static unsigned below(unsigned most)
     return (unsigned)rand() % most;
 }
 
-static unsigned commits_left(void)
-{
-    return open_gates(layout, SLOTS);
-}
-
 /* What the files are, as they were last set and as they were last committed. */
 struct model {
     unsigned char a[A_MOST], b[9000];
@@ -463,7 +458,7 @@ static void open_many_commits(void)
         _exit(0);
     }
     WANT(waitpid(child, &status, 0) == child && WIFEXITED(status) && WEXITSTATUS(status) == 0);
-    WANT(open_gates(layout, RECORDS) == COMMITS);
+    WANT(commits_left() == COMMITS);
     atomic_store(&fails_read, 1u << 30);
     before = atomic_load(&reads);
     handle = opened();
@@ -483,7 +478,7 @@ int main(void)
     WANT(acknowledged != MAP_FAILED);
     is_slow = getenv("WITHOUT_SIGNALS") != NULL;
     srand(1);
-    for (layout = JOURNAL_LAYOUTS + 1; layout <= LAYOUTS; layout++) {
+    for (layout = FIRST_LAYOUT; layout <= LAYOUTS; layout++) {
         for (int foreground = 0; foreground < 2; foreground++) {
             round_the_ring(foreground, false);
             round_the_ring(foreground, true);

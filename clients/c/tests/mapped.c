@@ -31,19 +31,6 @@ static void end(famsync *handle, famsync_memory *memory)
     WANT_CODE(famsync_close(handle), FAMSYNC_OK);
 }
 
-/* A volume whose files are holes. */
-static void make_sparse(unsigned layout, unsigned slots, const char *files)
-{
-    unsigned char super[4096] = {0}, lengths[4096] = {0};
-    uint32_t lengths_at, blocks = lay_out(layout, slots, files, super, lengths, &lengths_at);
-    make_folder();
-    int file = open(volume, O_RDWR | O_CREAT | O_TRUNC | O_CLOEXEC, 0600);
-    WANT(file >= 0 && ftruncate(file, (off_t)blocks * 4096) == 0 && pwrite(file, super, 4096, 0) == 4096);
-    if (lengths_at)
-        WANT(pwrite(file, lengths, 4096, (off_t)lengths_at * 4096) == 4096);
-    WANT(close(file) == 0);
-}
-
 /* The pages of this process in some memory that are its own, and how many mappings the memory is. */
 static size_t own_pages(const unsigned char *at, size_t length, unsigned *mappings)
 {
@@ -76,7 +63,7 @@ static uint64_t reads_of(famsync *handle)
 static void reads_nothing(void)
 {
     unsigned mappings;
-    make_sparse(4, 64, "a=1073741824");
+    make_hole_of(FIRST_LAYOUT, 64, "a=1073741824");
     famsync *handle = opened();
     uint64_t before = reads_of(handle);
     famsync_memory *memory = memory_of(handle);
@@ -142,10 +129,10 @@ static void keeps_to_budget(unsigned layout, int foreground)
     end(handle, memory);
 }
 
-/* The first block of the file `a` of a volume that has nothing before it but journals and lengths. */
-static off_t home_of(unsigned layout, unsigned slots)
+/* The first block of the file `a` of a volume that has nothing before it but the log and the lengths. */
+static off_t home_of(unsigned records)
 {
-    return (off_t)(first_home(layout, slots) + has_lengths(layout)) * 4096;
+    return (off_t)(first_home(records) + 1) * 4096;
 }
 
 static bool is_all(const unsigned char *at, size_t count, unsigned char value)
@@ -160,10 +147,10 @@ static bool is_all(const unsigned char *at, size_t count, unsigned char value)
 static void bytes_past_the_end(int resident)
 {
     unsigned char block[4096];
-    make_volume_of(4, 20, "a=5000/40000");
+    make_volume_of(FIRST_LAYOUT, 20, "a=5000/40000");
     memset(block, 9, sizeof block);
     int file = open(volume, O_WRONLY | O_CLOEXEC);
-    WANT(pwrite(file, block, sizeof block, home_of(4, 20) + 4096) == 4096 && close(file) == 0);
+    WANT(pwrite(file, block, sizeof block, home_of(20) + 4096) == 4096 && close(file) == 0);
     famsync *handle = opened_with((struct famsync_options){
         .size = sizeof(struct famsync_options), .foreground = 1, .resident = resident, .budget = 1});
     famsync_memory *memory = memory_of(handle);
@@ -190,7 +177,7 @@ static void bytes_past_the_end(int resident)
 /* A page that was committed whole is the last one then, and keeps zeros past the end. */
 static void cut_within_a_page(void)
 {
-    make_volume_of(4, 20, "a=8192/40000");
+    make_volume_of(FIRST_LAYOUT, 20, "a=8192/40000");
     famsync *handle = opened_with(
         (struct famsync_options){.size = sizeof(struct famsync_options), .foreground = 1, .budget = 1});
     famsync_memory *memory = memory_of(handle);
@@ -211,7 +198,7 @@ static void cut_pages_dont_count(void)
 {
     unsigned mappings;
     famsync_memory *other;
-    make_volume_of(4, 40, "a=8192/409600 b=409600");
+    make_volume_of(FIRST_LAYOUT, 40, "a=8192/409600 b=409600");
     famsync *handle = opened_with(
         (struct famsync_options){.size = sizeof(struct famsync_options), .foreground = 1, .budget = 30 * 8192});
     famsync_memory *memory = memory_of(handle);
@@ -235,8 +222,6 @@ static void cut_pages_dont_count(void)
 static void same_bytes_again(unsigned layout)
 {
     make_volume_of(layout, 20, "a=49152");
-    if (has_lengths(layout))
-        make_volume_of(layout, 20, "a=49152/49152");
     famsync *handle = opened_with((struct famsync_options){.foreground = 1});
     famsync_memory *memory = memory_of(handle);
     unsigned char *at = famsync_memory_at(memory);
@@ -264,7 +249,7 @@ static void child_is_left(int resident)
 {
     int status, ends[2], more[2];
     char byte;
-    make_volume_of(4, 20, "a=65536");
+    make_volume_of(FIRST_LAYOUT, 20, "a=65536");
     WANT(pipe(ends) == 0 && pipe(more) == 0);
     pid_t parent = fork();
     if (parent == 0) {
@@ -294,7 +279,7 @@ static void child_is_left(int resident)
 static void child_has_a_copy(void)
 {
     int status, ends[2];
-    make_volume_of(1, 20, "a=65536");
+    make_volume_of(FIRST_LAYOUT, 20, "a=65536");
     famsync *handle = opened_with(
         (struct famsync_options){.size = sizeof(struct famsync_options), .foreground = 1, .resident = 1});
     famsync_memory *memory = memory_of(handle);
@@ -346,7 +331,7 @@ static void opened_beside_writes(unsigned layout)
 static void cant_be_mapped(int flags, int error)
 {
     famsync_memory *memory;
-    make_volume_of(4, 20, "a=65536");
+    make_volume_of(FIRST_LAYOUT, 20, "a=65536");
     famsync *handle = opened();
     WANT_CODE(famsync_write(handle, 0, 5000, "other", 5, NULL), FAMSYNC_OK);
     WANT_CODE(famsync_msync(handle, NULL), FAMSYNC_OK);
@@ -373,7 +358,7 @@ static void cant_be_mapped(int flags, int error)
 static void cut_off(int resident)
 {
     int status;
-    make_volume_of(1, 20, "a=65536");
+    make_volume_of(FIRST_LAYOUT, 20, "a=65536");
     pid_t child = fork();
     if (child == 0) {
         alarm(60);
@@ -394,12 +379,11 @@ int main(void)
     cant_be_mapped(MAP_SHARED | MAP_PRIVATE, ENODEV);
     cant_be_mapped(MAP_SHARED, ENODEV);
     cant_be_mapped(MAP_PRIVATE, EACCES);
-    for (unsigned layout = 1; layout <= LAYOUTS; layout++) {
+    for (unsigned layout = FIRST_LAYOUT; layout <= LAYOUTS; layout++) {
         keeps_to_budget(layout, 0);
         keeps_to_budget(layout, 1);
         opened_beside_writes(layout);
-        if (has_lengths(layout))
-            same_bytes_again(layout);
+        same_bytes_again(layout);
     }
     for (int resident = 0; resident < 2; resident++) {
         bytes_past_the_end(resident);

@@ -46,7 +46,7 @@ static void stores_apart(unsigned left)
 {
     size_t taken;
     unsigned char *at, *mappings;
-    make_volume_of(4, 300, "a=1638400");
+    make_volume_of(FIRST_LAYOUT, 300, "a=1638400");
     famsync *handle = opened_with((struct famsync_options){.foreground = 1});
     famsync_memory *memory = memory_of(handle);
     at = famsync_memory_at(memory);

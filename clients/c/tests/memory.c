@@ -278,17 +278,15 @@ static void as_many_as_go(unsigned layout)
     static const unsigned char bytes[4 * 4096] = {1};
     make_volume_of(layout, 9, "a=81920 b=5000/90000");
     famsync *handle = opened();
-    unsigned grown = 0, most = famsync_frames(handle);
+    unsigned grown = 2, most = famsync_frames(handle);
     for (unsigned round = 1; round < 6; round++) {
         WANT_CODE(famsync_write(handle, 0, 4096, bytes, sizeof bytes, NULL), FAMSYNC_OK); /* pages 1 to 4 */
         famsync_memory *a = memory_of(handle, "a");
         unsigned char *at = famsync_memory_at(a);
-        if (has_lengths(layout)) { /* and two of the other file, or three */
-            WANT_CODE(famsync_setlength(handle, "b", 5000 + 4096 * (uint64_t)round), FAMSYNC_OK);
-            WANT_CODE(famsync_setlength(handle, "b", 5000 + 4096 * (uint64_t)round + 8192), FAMSYNC_OK);
-            WANT_CODE(famsync_setlength(handle, "b", 5000 + 4096 * (uint64_t)round), FAMSYNC_OK);
-            grown = 2;
-        }
+        /* and two of the other file, or three */
+        WANT_CODE(famsync_setlength(handle, "b", 5000 + 4096 * (uint64_t)round), FAMSYNC_OK);
+        WANT_CODE(famsync_setlength(handle, "b", 5000 + 4096 * (uint64_t)round + 8192), FAMSYNC_OK);
+        WANT_CODE(famsync_setlength(handle, "b", 5000 + 4096 * (uint64_t)round), FAMSYNC_OK);
         for (unsigned page = 3; page < most - grown; page++) /* with pages 1 and 2 that is all but one */
             at[page * 4096] = (unsigned char)round;
         at[18 * 4096] = at[19 * 4096] = (unsigned char)round; /* which is one too many */
@@ -387,7 +385,7 @@ static uint64_t memory_of_core(famsync *handle)
 static void opened_again(void)
 {
     uint64_t first = 0;
-    make_volume_of(3, 8, "a=4000/40000");
+    make_volume_of(FIRST_LAYOUT, 8, "a=4000/40000");
     famsync *handle = opened();
     for (unsigned round = 0; round < 4; round++) {
         for (uint64_t length = 1; length < 40000; length += 1000) {
@@ -450,7 +448,7 @@ int main(void)
     other_faults();
     too_many_pages();
     too_many_with_stores();
-    for (unsigned layout = 1; layout <= LAYOUTS; layout++)
+    for (unsigned layout = FIRST_LAYOUT; layout <= LAYOUTS; layout++)
         as_many_as_go(layout);
     no_frames();
     rising_stores();

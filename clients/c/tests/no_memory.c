@@ -203,7 +203,7 @@ static void each_request(void)
     char path[100];
     long number = 0;
     do {
-        make_volume_of(4, 20, "a=65536 b=0/20000");
+        make_volume_of(FIRST_LAYOUT, 20, "a=65536 b=0/20000");
         snprintf(path, sizeof path, "%s/copy.img", folder);
         copy = open(path, O_RDWR | O_CREAT | O_CLOEXEC, 0600);
         requests = 0;
@@ -256,7 +256,7 @@ static void no_mapping(void)
     const size_t pages = 1000000;
     famsync_memory *other;
     unsigned char rounds = 0;
-    make_volume_of(4, 40, "a=65536 b=0/20000 c=4096");
+    make_volume_of(FIRST_LAYOUT, 40, "a=65536 b=0/20000 c=4096");
     WANT_CODE(open_session(), FAMSYNC_OK);
     WANT_CODE(open_memory(), FAMSYNC_OK);
     at = famsync_memory_at(memory);

@@ -123,7 +123,7 @@ static void spoilt_volumes(void)
     set_bytes(8, "\377\377\377\377", 4); /* files */
     WANT_CODE(code_of(volume), FAMSYNC_DAMAGED);
     make_volume(16, "a=65536");
-    set_bytes(12, "\377\377\377\377", 4); /* slots */
+    set_bytes(12, "\377\377\377\377", 4); /* blocks of the log */
     WANT_CODE(code_of(volume), FAMSYNC_DAMAGED);
     make_volume(16, "a=65536");
     set_bytes(16, "\377\377\377\377", 4); /* blocks */
@@ -131,27 +131,6 @@ static void spoilt_volumes(void)
     make_volume(16, "a=65536");
     set_bytes(64, "\377\377\377\377\377\377\377\377", 8); /* a capacity */
     WANT_CODE(code_of(volume), FAMSYNC_DAMAGED);
-    for (unsigned layout = 1; layout <= JOURNAL_LAYOUTS; layout++) { /* an open gate without a descriptor */
-        make_volume_of(layout, 16, "a=65536");
-        set_bytes((off_t)gate_block(16, journals_of(layout) - 1) * 4096, "\247", 1);
-        WANT_CODE(code_of(volume), FAMSYNC_DAMAGED);
-    }
-}
-
-/* An open gate with a descriptor that counts more records than there are slots. */
-static void too_many_records(void)
-{
-    for (unsigned layout = 1; layout <= JOURNAL_LAYOUTS; layout++)
-        for (unsigned count = 17; count < 1000; count += 200) {
-            unsigned char descriptor[16] = {0};
-            off_t gate = (off_t)gate_block(16, 0) * 4096;
-            make_volume_of(layout, 16, "a=65536");
-            put_number(descriptor, 8, 1);
-            put_number(descriptor + 8, 4, count);
-            set_bytes(gate, "\247", 1);
-            set_bytes(gate + 4096, (const char *)descriptor, sizeof descriptor);
-            WANT_CODE(code_of(volume), FAMSYNC_DAMAGED);
-        }
 }
 
 /* A volume with a log of 20 blocks in which these bytes are other ones. */
@@ -166,7 +145,7 @@ static int code_of_log(unsigned layout, off_t at, const char *bytes, size_t coun
    6, whose digest tells it from a commit; in layout 5 a seal has to be a commit's. */
 static void spoilt_logs(void)
 {
-    for (unsigned layout = JOURNAL_LAYOUTS + 1; layout <= LAYOUTS; layout++) {
+    for (unsigned layout = FIRST_LAYOUT; layout <= LAYOUTS; layout++) {
         WANT_CODE(code_of_log(layout, 12, "\0\0\0\24", 4), FAMSYNC_OK);
         WANT_CODE(code_of_log(layout, 12, "\0\0\0\3", 4), FAMSYNC_DAMAGED); /* blocks of the log */
         WANT_CODE(code_of_log(layout, 12, "\1\0\0\1", 4), FAMSYNC_DAMAGED);
@@ -182,25 +161,6 @@ static void spoilt_logs(void)
         WANT_CODE(code_of_log(layout, 4096, "\1", 1), FAMSYNC_OK);
         WANT_CODE(code_of_log(layout, 16384, "\247", 1), layout == 6 ? FAMSYNC_OK : FAMSYNC_DAMAGED); /* a seal */
         WANT_CODE(code_of_log(layout, 16385, "\247", 1), FAMSYNC_OK);
-    }
-}
-
-/* The least number of slots and 1,020 of them are served; one less and one more than there may be make it no volume. */
-static void numbers_of_slots(void)
-{
-    for (unsigned layout = 1; layout <= JOURNAL_LAYOUTS; layout++) {
-        unsigned char head[4];
-        unsigned least = has_lengths(layout) ? 2 : 1, most = layout == 4 ? 65535 : 1020;
-        make_volume_of(layout, least, "a=4096");
-        WANT_CODE(code_of(volume), FAMSYNC_OK);
-        put_number(head, 4, least - 1);
-        set_bytes(12, (const char *)head, 4);
-        WANT_CODE(code_of(volume), FAMSYNC_DAMAGED);
-        make_volume_of(layout, 1020, "a=4096");
-        WANT_CODE(code_of(volume), FAMSYNC_OK);
-        put_number(head, 4, most + 1);
-        set_bytes(12, (const char *)head, 4);
-        WANT_CODE(code_of(volume), FAMSYNC_DAMAGED);
     }
 }
 
@@ -361,9 +321,7 @@ int main(void)
     arguments();
     other_files();
     spoilt_volumes();
-    too_many_records();
     spoilt_logs();
-    numbers_of_slots();
     other_lengths();
     other_names();
     flagged();

@@ -101,7 +101,7 @@ static void session(bool handler_first)
     famsync_memory *memory;
     char file[40];
     snprintf(file, sizeof file, "a=%u/%u", LENGTH, 2 * LENGTH);
-    make_volume_of(4, 60, file);
+    make_volume_of(FIRST_LAYOUT, 60, file);
     if (handler_first)
         WANT(sigaction(SIGSEGV, &action, NULL) == 0);
     handle = opened_with(options);

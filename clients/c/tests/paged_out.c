@@ -87,7 +87,7 @@ static void session(int tracking, unsigned layout)
 
 int main(void)
 {
-    for (unsigned layout = 1; layout <= LAYOUTS; layout++) {
+    for (unsigned layout = FIRST_LAYOUT; layout <= LAYOUTS; layout++) {
         session(FAMSYNC_TRACK_SIGNALS, layout);
         session(FAMSYNC_TRACK_KERNEL, layout);
     }

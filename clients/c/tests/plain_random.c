@@ -98,9 +98,7 @@ static void set_length(unsigned file)
     if (length > MOST)
         length = MOST;
     code = famsync_setlength(handle, file == 0 ? "a" : "b", length);
-    check(has_lengths(layout) ? code == FAMSYNC_OK || (code == FAMSYNC_NOFRAME && length > now[file].length)
-                              : code == FAMSYNC_EINVAL,
-          "a length isn't set");
+    check(code == FAMSYNC_OK || (code == FAMSYNC_NOFRAME && length > now[file].length), "a length isn't set");
     if (code != FAMSYNC_OK)
         return;
     if (length > now[file].length)
@@ -170,15 +168,15 @@ static void make_call(unsigned file)
 static void session(void)
 {
     unsigned slots = below(3) ? 20 + below(12) : 60;
-    layout = 1 + seed % LAYOUTS;
+    layout = FIRST_LAYOUT + seed % (LAYOUTS - FIRST_LAYOUT + 1);
     options = (struct famsync_options){.size = sizeof options, .foreground = (int)below(2), .resident = below(4) == 0};
     if (!options.resident && has_tracking && below(3) == 0)
         options.tracking = FAMSYNC_TRACK_KERNEL;
     options.budget = below(3) == 0 ? 0 : below(2) ? 1 : 40000;
-    make_volume_of(layout, slots, has_lengths(layout) ? "a=5000/60000 b=30000/60000" : "a=60000 b=60000");
+    make_volume_of(layout, slots, "a=5000/60000 b=30000/60000");
     memset(committed, 0, sizeof committed);
-    committed[0].length = has_lengths(layout) ? 5000 : MOST;
-    committed[1].length = has_lengths(layout) ? 30000 : MOST;
+    committed[0].length = 5000;
+    committed[1].length = 30000;
     begin();
     for (unsigned calls = 80 + below(80); calls > 0; calls--) {
         make_call(below(FILES));

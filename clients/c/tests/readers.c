@@ -120,7 +120,7 @@ static void jump_back(int number)
 static void stores_fault(void)
 {
     int status;
-    make_numbers(1);
+    make_numbers(FIRST_LAYOUT);
     pid_t child = fork();
     if (child == 0) {
         struct sigaction action = {.sa_handler = jump_back};
@@ -150,7 +150,7 @@ static void left_by_a_crash(unsigned layout)
         WANT_CODE(famsync_msync(handle, NULL), FAMSYNC_OK);
         raise(SIGKILL);
     }
-    WANT(waitpid(child, &status, 0) == child && WIFSIGNALED(status) && open_gates(layout, 16) == 1);
+    WANT(waitpid(child, &status, 0) == child && WIFSIGNALED(status) && commits_left() == 1);
     state_of_volume(before, sizeof before);
     WANT_CODE(code_with((struct famsync_options){.readonly = 1}, &handle), FAMSYNC_NEEDSOPENING);
     state_of_volume(after, sizeof after);
@@ -251,7 +251,7 @@ static void sizes(void)
 
 int main(void)
 {
-    for (unsigned layout = 1; layout <= LAYOUTS; layout++) {
+    for (unsigned layout = FIRST_LAYOUT; layout <= LAYOUTS; layout++) {
         shared(layout);
         left_by_a_crash(layout);
     }

@@ -274,26 +274,25 @@ ssize_t pread(int file, void *bytes, size_t count, off_t offset)
 /* A rollback that can't be made undoes nothing: what waits can be committed. */
 static void fails_whole(void)
 {
-    make_volume_of(layout, 20, has_lengths(layout) ? "a=20000/40000 b=8192" : "a=20000 b=8192");
+    make_volume_of(layout, 20, "a=20000/40000 b=8192");
     famsync *handle = opened_with(options);
     famsync_memory *a = memory_of(handle, "a");
     unsigned char *at = famsync_memory_at(a);
     for (unsigned char round = 1; round < 4; round++) {
         at[0] = at[19999] = round;
         write_all(handle, 1, 0, 8192, round);
-        if (has_lengths(layout))
-            WANT_CODE(famsync_setlength(handle, "a", 20000 + round), FAMSYNC_OK);
+        WANT_CODE(famsync_setlength(handle, "a", 20000 + round), FAMSYNC_OK);
         unreadable = true;
         WANT_CODE(famsync_rollback(handle), FAMSYNC_DEVICE);
         WANT(errno == EIO);
         unreadable = false;
         WANT(at[0] == round && at[19999] == round && has(handle, 1, 0, 8192, round));
-        WANT(famsync_file_length(handle, 0) == 20000 + (has_lengths(layout) ? round : 0u));
+        WANT(famsync_file_length(handle, 0) == 20000u + round);
         WANT(famsync_memory_dirty(a) > 0);
         WANT_CODE(round == 3 ? famsync_rollback(handle) : famsync_msync(handle, NULL), FAMSYNC_OK);
     }
     WANT(at[0] == 2 && at[19999] == 2 && has(handle, 1, 0, 8192, 2));
-    WANT(famsync_file_length(handle, 0) == 20000 + (has_lengths(layout) ? 2 : 0u));
+    WANT(famsync_file_length(handle, 0) == 20002);
     WANT_CODE(famsync_memory_close(a), FAMSYNC_OK);
     WANT_CODE(famsync_close(handle), FAMSYNC_OK);
 }
@@ -351,10 +350,10 @@ static void refusals(void)
 static void past_the_end(void)
 {
     unsigned char block[4096];
-    make_volume_of(4, 20, "a=5000/40000");
+    make_volume_of(FIRST_LAYOUT, 20, "a=5000/40000");
     memset(block, 9, sizeof block);
     int file = open(volume, O_WRONLY | O_CLOEXEC);
-    WANT(pwrite(file, block, sizeof block, (off_t)(first_home(4, 20) + 2) * 4096) == 4096 && close(file) == 0);
+    WANT(pwrite(file, block, sizeof block, (off_t)(first_home(20) + 2) * 4096) == 4096 && close(file) == 0);
     famsync *handle = opened_with(options);
     famsync_memory *a = memory_of(handle, "a");
     unsigned char *at = famsync_memory_at(a);
@@ -403,7 +402,7 @@ static void commit(famsync *handle, uint64_t counts[WORKERS][STEPS])
     WANT_CODE(famsync_backup(handle, file), FAMSYNC_OK);
     for (unsigned worker = 0; worker < WORKERS; worker++)
         for (unsigned step = 0; step < STEPS; step++) {
-            off_t home = (off_t)(first_home(1, 24) + (step % 2) * 10) * 4096;
+            off_t home = (off_t)(first_home(24) + 1 + (step % 2) * 10) * 4096;
             WANT(pread(file, &counts[worker][step], 8, home + (off_t)place_of(worker, step)) == 8);
         }
     WANT(close(file) == 0);
@@ -436,7 +435,7 @@ static void threads(void)
     uint64_t before[WORKERS][STEPS], after[WORKERS][STEPS];
     pthread_t thread[WORKERS];
     unsigned parted = 0;
-    make_volume_of(1, 24, "a=40960 b=40960");
+    make_volume_of(FIRST_LAYOUT, 24, "a=40960 b=40960");
     famsync *handle = opened_with(options);
     famsync_memory *memory[2] = {memory_of(handle, "a"), memory_of(handle, "b")};
     for (unsigned i = 0; i < 2; i++)
@@ -504,7 +503,7 @@ BEFORE_SANITIZERS void *mremap(void *at, size_t length, size_t new_length, int f
 /* After a part alone was undone, the session commits once another rollback has undone all. */
 static void refused_by_the_system(bool writes)
 {
-    make_volume_of(4, 20, "a=65536/131072 b=8192 c=8192");
+    make_volume_of(FIRST_LAYOUT, 20, "a=65536/131072 b=8192 c=8192");
     for (int call = MMAP; call <= MREMAP; call++) {
         famsync *handle = opened_with(options);
         famsync_memory *a = memory_of(handle, "a"), *b = memory_of(handle, "b");
@@ -546,14 +545,12 @@ int main(void)
     for (int way = 0; way < 4; way++) {
         options = (struct famsync_options){
             .size = sizeof options, .resident = way % 2, .foreground = way / 2, .budget = way < 2 ? 0 : 1};
-        for (layout = 1; layout <= LAYOUTS; layout++) {
+        for (layout = FIRST_LAYOUT; layout <= LAYOUTS; layout++) {
             undoes_stores();
             too_many();
             undoes_writes();
-            if (has_lengths(layout)) {
-                undoes_lengths();
-                undoes_lengths_of_memory();
-            }
+            undoes_lengths();
+            undoes_lengths_of_memory();
             opened_over_writes();
             fails_whole();
             beside_a_backup();

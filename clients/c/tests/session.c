@@ -4,7 +4,7 @@
  * the odd ones of `c`, by famsync_write. `b` has the last number as its length that four divides. Before some rounds,
  * and after one that failed, other changes are made and undone.
  *
- *   session VOLUME make [FILES [LAYOUT]]      makes a volume; of layout 3 where that isn't said
+ *   session VOLUME make [FILES [LAYOUT]]      makes a volume; of layout 5 where that isn't said
  *   session VOLUME format [LAYOUT]            the same by famsync_format, and prints the call if it fails
  *   session VOLUME work ROUNDS [foreground|few]
  *                                             prints each call that fails, and the number of each round that is done;
@@ -46,26 +46,24 @@ static int read_another(famsync *handle, uint64_t number)
     return report("read", famsync_read(handle, C, (PAGES + number % PAGES) * 4096, &byte, 1, NULL));
 }
 
-/* Changes all that a round changes, and undoes it. In layouts 1 and 2 `b` keeps its length of 5,000 bytes. */
+/* Changes all that a round changes, and undoes it. */
 static int undone(famsync *handle, famsync_memory *memory, uint64_t number)
 {
     static const unsigned char junk[100] = {0xEE};
     unsigned char *at = famsync_memory_at(memory), found = 0;
-    bool resizes = famsync_file_length(handle, B) < 5000;
     int failed = 0;
     for (unsigned page = 0; page < PAGES; page += 2) {
         memcpy(at + page * 4096 + 3000, junk, sizeof junk);
         failed |= report("write", famsync_write(handle, C, (page + 1) * 4096 + 3000, junk, sizeof junk, NULL));
     }
-    if (resizes)
-        failed |= report("setlength", famsync_setlength(handle, "b", 4999));
+    failed |= report("setlength", famsync_setlength(handle, "b", 4999));
     if (report("rollback", famsync_rollback(handle)))
         return 1;
     for (unsigned page = 0; page < PAGES; page += 2) {
         failed |= report("read", famsync_read(handle, C, (page + 1) * 4096 + 3000, &found, 1, NULL));
         WANT(found == 0 && at[page * 4096 + 3000] == 0);
     }
-    WANT(famsync_file_length(handle, B) == (resizes ? (number - 1) / 4 * 4 : 5000));
+    WANT(famsync_file_length(handle, B) == (number - 1) / 4 * 4);
     return failed;
 }
 
@@ -202,14 +200,9 @@ static int find(bool trust)
 static int formats(unsigned layout)
 {
     struct famsync_new_file file[] = {{"a", 163840, 0}, {"b", 0, 5000}, {"c", 163840, 0}};
-    struct famsync_plan plan = {.size = sizeof plan, .layout = layout, .slots = 48, .files = 3, .file = file};
-    if (layout == 1 || layout == 2)
-        file[B].length = file[B].capacity;
-    if (has_log(layout)) {
-        plan.slots = 0;
-        plan.log = log_blocks(48);
-        plan.key = layout == 6 ? LOG_KEY : 0;
-    }
+    struct famsync_plan plan = {.size = sizeof plan, .layout = layout, .files = 3, .file = file};
+    plan.log = log_blocks(48);
+    plan.key = layout == 6 ? LOG_KEY : 0;
     return report("format", famsync_format(volume, &plan));
 }
 
@@ -242,7 +235,7 @@ int main(int count, char **words)
     snprintf(volume, sizeof volume, "%s", words[1]);
     if (strcmp(words[2], "make") == 0) {
         strcpy(folder, ".");
-        make_volume_of(count > 4 ? (unsigned)atoi(words[4]) : 3, 48, count > 3 ? words[3] : FILES);
+        make_volume_of(count > 4 ? (unsigned)atoi(words[4]) : FIRST_LAYOUT, 48, count > 3 ? words[3] : FILES);
         return 0;
     }
     if (strcmp(words[2], "format") == 0)

@@ -93,41 +93,9 @@ static inline void put_number(unsigned char *bytes, unsigned count, uint64_t num
         bytes[i - 1] = (unsigned char)number;
 }
 
-/* Layouts 1 to LAYOUTS, as docs/FORMATS.md has them: with journals up to JOURNAL_LAYOUTS, and then with a log. */
-#define JOURNAL_LAYOUTS 4u
+/* Layouts FIRST_LAYOUT to LAYOUTS, as docs/FORMATS.md has them: those with a log. */
+#define FIRST_LAYOUT 5u
 #define LAYOUTS 6u
-
-static inline bool has_log(unsigned layout)
-{
-    return layout > JOURNAL_LAYOUTS;
-}
-
-static inline bool has_lengths(unsigned layout)
-{
-    return layout >= 3;
-}
-
-static inline unsigned journals_of(unsigned layout)
-{
-    return layout == 1 ? 1 : layout == 4 ? 4 : 2;
-}
-
-/* Whether commits share their syncs. */
-static inline bool shares_syncs(unsigned layout)
-{
-    return layout >= 4;
-}
-
-/* How many blocks the descriptor of a journal with so many slots has, and which block the gate of a journal is. */
-static inline uint32_t descriptor_blocks(unsigned slots)
-{
-    return (16 + 4 * slots + 4095) / 4096;
-}
-
-static inline uint32_t gate_block(unsigned slots, unsigned journal)
-{
-    return 1 + journal * (1 + descriptor_blocks(slots) + slots);
-}
 
 /* How many blocks a log has in which a commit has at most so many records, and how many of its blocks such a commit
    takes. The key of layout 6. */
@@ -138,28 +106,29 @@ static inline uint32_t commit_blocks(unsigned records)
     return (32 + 4 * records + 4095) / 4096 + records;
 }
 
-static inline uint32_t log_blocks(unsigned slots)
+static inline uint32_t log_blocks(unsigned records)
 {
-    uint32_t blocks = commit_blocks(slots) + 1;
+    uint32_t blocks = commit_blocks(records) + 1;
     return blocks < 4 ? 4 : blocks;
 }
 
-/* The first block after the journals or the log: the lengths block, or where there is none a file's first one. */
-static inline uint32_t first_home(unsigned layout, unsigned slots)
+/* The first block after the log, which is the lengths block. */
+static inline uint32_t first_home(unsigned records)
 {
-    return has_log(layout) ? 4 + log_blocks(slots) : gate_block(slots, journals_of(layout));
+    return 4 + log_blocks(records);
 }
 
 /* The super block and the lengths block of a volume with these files, `NAME=LENGTH` or `NAME=LENGTH/CAPACITY`, with
-   blanks between them. Answers how many blocks it has; `*lengths_at` is where the lengths block lies, 0 where it has
-   none. */
-static inline uint32_t lay_out(unsigned layout, unsigned slots, const char *files, unsigned char super[4096],
+   blanks between them. Its log has room for a commit of so many records. Answers how many blocks it has;
+   `*lengths_at` is where the lengths block lies. */
+static inline uint32_t lay_out(unsigned layout, unsigned records, const char *files, unsigned char super[4096],
                                unsigned char lengths[4096], uint32_t *lengths_at)
 {
-    uint32_t next = first_home(layout, slots) + has_lengths(layout);
-    uint32_t behind = has_log(layout) ? log_blocks(slots) + 1 : 0; /* the block that the table has for a home block */
+    uint32_t next = first_home(records) + 1;
+    uint32_t behind = log_blocks(records) + 1; /* the table has a home block that is so many blocks before it */
     unsigned count = 0;
-    *lengths_at = has_lengths(layout) ? next - 1 : 0;
+    WANT(FIRST_LAYOUT <= layout && layout <= LAYOUTS);
+    *lengths_at = next - 1;
     for (const char *at = files; *at; at += strspn(at, " "), count++) {
         unsigned long long length, capacity;
         char name[33] = "";
@@ -182,33 +151,31 @@ static inline uint32_t lay_out(unsigned layout, unsigned slots, const char *file
     memcpy(super, "FAMSYNC", 7);
     super[7] = (unsigned char)('0' + layout);
     put_number(super + 8, 4, count);
-    put_number(super + 12, 4, has_log(layout) ? log_blocks(slots) : slots);
+    put_number(super + 12, 4, log_blocks(records));
     put_number(super + 16, 4, next);
-    put_number(super + 20, 4, has_log(layout) ? 4 : 0);
+    put_number(super + 20, 4, 4);
     put_number(super + 24, 8, layout == 6 ? LOG_KEY : 0);
     return next;
 }
 
 /* Writes what a new volume has besides zeros. */
-static inline void write_new(int file, unsigned layout, const unsigned char *super, const unsigned char *lengths,
-                             uint32_t lengths_at)
+static inline void write_new(int file, const unsigned char *super, const unsigned char *lengths, uint32_t lengths_at)
 {
     unsigned char start[4096] = {0};
     put_number(start, 8, 1);
     put_number(start + 8, 8, 1);
     WANT(pwrite(file, super, 4096, 0) == 4096);
-    if (lengths_at)
-        WANT(pwrite(file, lengths, 4096, (off_t)lengths_at * 4096) == 4096);
-    if (has_log(layout))
-        WANT(pwrite(file, start, 4096, 2 * 4096) == 4096);
+    WANT(pwrite(file, lengths, 4096, (off_t)lengths_at * 4096) == 4096);
+    WANT(pwrite(file, start, 4096, 2 * 4096) == 4096);
 }
 
-/* Makes a volume of a layout with these files in a folder of its own. */
-static inline void make_volume_of(unsigned layout, unsigned slots, const char *files)
+/* Makes a volume of a layout with these files in a folder of its own. A commit has at most one page less than so many
+   records, as one is for the lengths. */
+static inline void make_volume_of(unsigned layout, unsigned records, const char *files)
 {
     unsigned char super[4096] = {0}, lengths[4096] = {0};
     static const unsigned char zeros[65536];
-    uint32_t lengths_at, blocks = lay_out(layout, slots, files, super, lengths, &lengths_at);
+    uint32_t lengths_at, blocks = lay_out(layout, records, files, super, lengths, &lengths_at);
     make_folder();
     int file = open(volume, O_RDWR | O_CREAT | O_TRUNC | O_CLOEXEC, 0600);
     WANT(file >= 0);
@@ -218,25 +185,26 @@ static inline void make_volume_of(unsigned layout, unsigned slots, const char *f
         WANT(written > 0);
         done += (uint64_t)written;
     }
-    write_new(file, layout, super, lengths, lengths_at);
+    write_new(file, super, lengths, lengths_at);
     WANT(close(file) == 0);
 }
 
 /* The same, and all that is zeros is a hole. */
-static inline void make_hole_of(unsigned layout, unsigned slots, const char *files)
+static inline void make_hole_of(unsigned layout, unsigned records, const char *files)
 {
     unsigned char super[4096] = {0}, lengths[4096] = {0};
-    uint32_t lengths_at, blocks = lay_out(layout, slots, files, super, lengths, &lengths_at);
+    uint32_t lengths_at, blocks = lay_out(layout, records, files, super, lengths, &lengths_at);
     make_folder();
     int file = open(volume, O_RDWR | O_CREAT | O_TRUNC | O_CLOEXEC, 0600);
     WANT(file >= 0 && ftruncate(file, (off_t)blocks * 4096) == 0);
-    write_new(file, layout, super, lengths, lengths_at);
+    write_new(file, super, lengths, lengths_at);
     WANT(close(file) == 0);
 }
 
-static inline void make_volume(unsigned slots, const char *files)
+/* The same, in which a commit has at most so many pages. */
+static inline void make_volume(unsigned pages, const char *files)
 {
-    make_volume_of(1, slots, files);
+    make_volume_of(FIRST_LAYOUT, pages + 1, files);
 }
 
 /* The bytes of a volume as a number. */
@@ -266,34 +234,21 @@ static inline unsigned commits_in_log(int file)
     return commits;
 }
 
-/* How many commits of a volume with so many slots aren't home: gates that are open, or commits of its log. */
-static inline unsigned open_gates(unsigned layout, unsigned slots)
+/* How many commits of the volume are in its log. */
+static inline unsigned commits_left(void)
 {
-    unsigned count = 0;
     int file = open(volume, O_RDONLY | O_CLOEXEC);
     WANT(file >= 0);
-    for (unsigned journal = 0; !has_log(layout) && journal < journals_of(layout); journal++)
-        count += number_at(file, (uint64_t)gate_block(slots, journal) * 4096, 1) == 0xA7;
-    if (has_log(layout))
-        count = commits_in_log(file);
+    unsigned count = commits_in_log(file);
     WANT(close(file) == 0);
     return count;
 }
 
-/* How many gates are open after so many commits in a row, in the foreground: one in each journal; where commits share
-   their syncs, the gate of the one before the last isn't closed yet, and those before it are. */
-static inline unsigned gates_left(unsigned layout, unsigned commits)
+/* Whether that many commits of a page may be left after so many: the newest one, and as many more as the log has room
+   for. */
+static inline bool may_be_left(unsigned records, unsigned commits, unsigned left)
 {
-    unsigned most = shares_syncs(layout) ? 2 : journals_of(layout);
-    return commits < most ? commits : most;
-}
-
-/* Whether that many commits may be left then, also in a log: the newest one, and as many more as it has room for. */
-static inline bool may_be_left(unsigned layout, unsigned slots, unsigned commits, unsigned left)
-{
-    if (!has_log(layout))
-        return left == gates_left(layout, commits);
-    return left >= 1 && left <= commits && left <= log_blocks(slots) / commit_blocks(1);
+    return left >= 1 && left <= commits && left <= log_blocks(records) / commit_blocks(1);
 }
 
 static inline famsync *opened_with(struct famsync_options options)

@@ -115,7 +115,8 @@ static void commit(unsigned char *committed, size_t count)
     int file = open(path, O_RDWR | O_CREAT | O_CLOEXEC, 0600);
     WANT_CODE(famsync_msync(handle, NULL), FAMSYNC_OK);
     WANT_CODE(famsync_backup(handle, file), FAMSYNC_OK);
-    WANT(pread(file, committed, count, (off_t)first_home(1, SLOTS) * 4096) == (ssize_t)count && close(file) == 0);
+    WANT(pread(file, committed, count, (off_t)(first_home(SLOTS + 1) + 1) * 4096) == (ssize_t)count &&
+         close(file) == 0);
 }
 
 static void begin(struct threads *threads)

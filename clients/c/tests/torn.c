@@ -171,8 +171,8 @@ int main(void)
         printf("clients/c: torn: not tried, as memory can't be refused here\n");
         return 0;
     }
-    in_layout(4, 0);
-    in_layout(4, 1);
+    in_layout(FIRST_LAYOUT, 0);
+    in_layout(FIRST_LAYOUT, 1);
     printf("clients/c: torn: as it should be\n");
     return 0;
 }

@@ -80,7 +80,7 @@ int main(void)
     resident.resident = 1;
     tracked.tracking = FAMSYNC_TRACK_KERNEL;
     rounds = getenv("WITHOUT_SIGNALS") ? 60 : 2000;
-    for (unsigned layout = 3; layout <= LAYOUTS; layout++) {
+    for (unsigned layout = FIRST_LAYOUT; layout <= LAYOUTS; layout++) {
         beside(layout, none);
         beside(layout, resident);
         beside(layout, tracked);

@@ -104,14 +104,14 @@ static void stores(unsigned layout)
     WANT(famsync_memory_dirty(a) == 0);
     memset(at, 1, 60000);
     memset(other, 1, 20000);
-    WANT_CODE(famsync_msync(handle, NULL), layout < 3 ? FAMSYNC_OK : FAMSYNC_NOFRAME);
+    WANT_CODE(famsync_msync(handle, NULL), FAMSYNC_NOFRAME);
     WANT_CODE(famsync_rollback(handle), FAMSYNC_OK);
     WANT_CODE(famsync_memory_close(a), FAMSYNC_OK);
     WANT_CODE(famsync_memory_close(b), FAMSYNC_OK);
     WANT_CODE(famsync_close(handle), FAMSYNC_OK);
     handle = opened();
     at = famsync_memory_at(a = memory_of(handle, "a"));
-    WANT(layout < 3 ? is_all(at, 60000, 1) : at[0] == 0 && is_all(at + 4000, 10000, 8));
+    WANT(at[0] == 0 && is_all(at + 4000, 10000, 8));
     WANT_CODE(famsync_memory_close(a), FAMSYNC_OK);
     WANT_CODE(famsync_close(handle), FAMSYNC_OK);
 }
@@ -218,7 +218,7 @@ static void disturbed(void)
 
 static void lengths(void)
 {
-    make_volume_of(4, 20, "a=5000/60000");
+    make_volume_of(FIRST_LAYOUT, 20, "a=5000/60000");
     famsync *handle = opened_with(options);
     famsync_memory *memory = memory_of(handle, "a");
     unsigned char *at = famsync_memory_at(memory);
@@ -266,11 +266,10 @@ static void want_unstored(famsync *handle, famsync_memory *memory)
    the end of the last page. */
 static void rolled_back(unsigned layout)
 {
-    make_volume_of(layout, 16, has_lengths(layout) ? "a=10000000 b=4096" : "a=10000000 b=4000");
+    make_volume_of(layout, 16, "a=10000000 b=4096");
     famsync *handle = opened_with(options);
     WANT_CODE(famsync_write(handle, 0, 5000000, "a", 1, NULL), FAMSYNC_OK);
-    if (has_lengths(layout))
-        WANT_CODE(famsync_setlength(handle, "a", 5000), FAMSYNC_OK);
+    WANT_CODE(famsync_setlength(handle, "a", 5000), FAMSYNC_OK);
     famsync_memory *memory = memory_of(handle, "a");
     unsigned char *at = famsync_memory_at(memory);
     for (unsigned round = 0; round < 3; round++) {
@@ -280,7 +279,7 @@ static void rolled_back(unsigned layout)
         at[9999999] = at[5000000] = at[4096] = 9;
         if (round == 1)
             WANT_CODE(famsync_write(handle, 1, 0, "b", 1, NULL), FAMSYNC_OK);
-        if (round == 1 && has_lengths(layout))
+        if (round == 1)
             WANT_CODE(famsync_setlength(handle, "a", 5000), FAMSYNC_OK);
     }
     WANT_CODE(famsync_memory_close(memory), FAMSYNC_OK);
@@ -326,11 +325,10 @@ int main(void)
     }
     forbidden();
     arguments();
-    for (unsigned layout = 1; layout <= LAYOUTS; layout++) {
+    for (unsigned layout = FIRST_LAYOUT; layout <= LAYOUTS; layout++) {
         stores(layout);
         rolled_back(layout);
-        if (has_lengths(layout))
-            rolled_back_at_end(layout);
+        rolled_back_at_end(layout);
     }
     two_volumes();
     forked();

@@ -1,6 +1,6 @@
-/* Opening a volume reads what it needs, and takes memory for that: of a volume without an open journal the super block,
-   the lengths and the gates. The records of an open journal are read in runs. An open volume keeps the blocks of four
-   reads of its files, each of up to 64 blocks. */
+/* Opening a volume reads what it needs, and takes memory for that: the super block, the
+   starts, the lengths and the first block of the log, if no commit is in it. The records of a commit are read in runs.
+   An open volume keeps the blocks of four reads of its files, each of up to 64 blocks. */
 #include "test.h"
 
 #include <sys/syscall.h>
@@ -24,20 +24,6 @@ static uint64_t resident(void)
     FILE *file = fopen("/proc/self/statm", "r");
     WANT(file && fscanf(file, "%llu %llu", &all, &here) == 2 && fclose(file) == 0);
     return here * 4096;
-}
-
-/* A volume whose file has holes where it is zeros. */
-static void make_sparse_volume(unsigned layout, unsigned slots, const char *files)
-{
-    unsigned char super[4096] = {0}, lengths[4096] = {0};
-    uint32_t lengths_at, blocks = lay_out(layout, slots, files, super, lengths, &lengths_at);
-    int file;
-    make_folder();
-    file = open(volume, O_RDWR | O_CREAT | O_TRUNC | O_CLOEXEC, 0600);
-    WANT(file >= 0 && ftruncate(file, (off_t)blocks * 4096) == 0 && pwrite(file, super, 4096, 0) == 4096);
-    if (lengths_at)
-        WANT(pwrite(file, lengths, 4096, (off_t)lengths_at * 4096) == 4096);
-    WANT(close(file) == 0);
 }
 
 /* Opens a volume and closes it: at most 20 reads, and 16 MB. */
@@ -75,7 +61,7 @@ static void recovers_by_few_reads(unsigned layout, unsigned pages)
     famsync *handle;
     make_volume_of(layout, 1020, "a=4177920");
     leave_a_commit(pages);
-    WANT(open_gates(layout, 1020) == 1);
+    WANT(commits_left() == 1);
     reads = 0;
     handle = opened();
     WANT(reads <= 50);
@@ -100,7 +86,7 @@ static unsigned reads_of(famsync *handle, unsigned page, unsigned pages)
 static void keeps_four_reads(void)
 {
     famsync *handle;
-    make_sparse_volume(1, 64, "a=16777216");
+    make_hole_of(FIRST_LAYOUT, 65, "a=16777216");
     handle = opened_with((struct famsync_options){.foreground = 1});
     longest = 0;
     for (unsigned i = 0; i < 5; i++)
@@ -117,13 +103,13 @@ static void keeps_four_reads(void)
 
 int main(void)
 {
-    make_sparse_volume(4, 65535, "a=4096");
+    make_hole_of(FIRST_LAYOUT, 65535, "a=4096");
     opens_by_few_reads();
-    make_sparse_volume(1, 64, "a=1073741824");
+    make_hole_of(FIRST_LAYOUT, 65, "a=1073741824");
     opens_by_few_reads();
-    make_sparse_volume(3, 1020, "a=1073741824/2147483648 b=1/4096");
+    make_hole_of(FIRST_LAYOUT, 1020, "a=1073741824/2147483648 b=1/4096");
     opens_by_few_reads();
-    for (unsigned layout = 1; layout <= LAYOUTS; layout++) {
+    for (unsigned layout = FIRST_LAYOUT; layout <= LAYOUTS; layout++) {
         recovers_by_few_reads(layout, 1);
         recovers_by_few_reads(layout, 900);
     }

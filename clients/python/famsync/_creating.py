@@ -22,7 +22,7 @@ def create(
     path: Path,
     files: Mapping[str, Length],
     *,
-    layout: int = 4,
+    layout: int = 5,
     slots: Optional[int] = None,
     preallocate: bool = False,
     log: Optional[int] = None,

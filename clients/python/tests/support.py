@@ -27,46 +27,21 @@ def put(block, at, count, number):
     block[at : at + count] = number.to_bytes(count, "big")
 
 
-def has_lengths(layout):
-    return layout >= 3
-
-
-def has_log(layout):
-    return layout >= 5
-
-
 KEY = 0x0123456789ABCDEF
+LAYOUTS = (5, 6)
 
 
-def log_blocks(slots):
+def log_blocks(records):
     """How many blocks a log has in which a commit has at most so many records."""
-    return max(4, -(-(32 + 4 * slots) // PAGE) + slots + 1)
+    return max(4, -(-(32 + 4 * records) // PAGE) + records + 1)
 
 
-def layouts_with_log():
-    """The layouts with a log, if the library's core has logs; the core of plain code has none."""
-    with tempfile.TemporaryDirectory() as folder:
-        try:
-            famsync.create(os.path.join(folder, "v.img"), {"a": 1}, layout=5)
-        except famsync.System:
-            return ()
-    return (5, 6)
-
-
-def first_home(layout, slots):
-    """The first block after the journals, each of which has a gate, its descriptor and its slots; or after the log."""
-    if has_log(layout):
-        return 4 + log_blocks(slots)
-    journals, descriptor = {1: 1, 2: 2, 3: 2, 4: 4}[layout], -(-(16 + 4 * slots) // PAGE)
-    return 1 + journals * (1 + descriptor + slots)
-
-
-def make_volume(path, slots, *files, layout=1):
+def make_volume(path, records, *files, layout=5):
     """Makes a volume as docs/FORMATS.md says, with files `NAME=LENGTH` or `NAME=LENGTH/CAPACITY`."""
     head, lengths = bytearray(PAGE), bytearray(PAGE)
-    lengths_at = first_home(layout, slots)
-    home = lengths_at + has_lengths(layout)
-    behind = log_blocks(slots) + 1 if has_log(layout) else 0
+    lengths_at = 4 + log_blocks(records)
+    home = lengths_at + 1
+    behind = log_blocks(records) + 1
     for number, file in enumerate(files):
         name, _, length = file.partition("=")
         length, _, capacity = length.partition("/")
@@ -79,19 +54,16 @@ def make_volume(path, slots, *files, layout=1):
         put(lengths, 8 * number, 8, int(length))
         home += pages
     head[:8] = b"FAMSYNC%d" % layout
-    for at, value in ((8, len(files)), (12, log_blocks(slots) if has_log(layout) else slots), (16, home)):
+    for at, value in ((8, len(files)), (12, log_blocks(records)), (16, home), (20, 4)):
         put(head, at, 4, value)
-    put(head, 20, 4, 4 if has_log(layout) else 0)
     put(head, 24, 8, KEY if layout == 6 else 0)
     with open(path, "wb") as volume:
         volume.truncate(home * PAGE)
         volume.write(head)
-        if has_lengths(layout):
-            volume.seek(lengths_at * PAGE)
-            volume.write(lengths)
-        if has_log(layout):
-            volume.seek(2 * PAGE)
-            volume.write((1).to_bytes(8, "big") * 2)
+        volume.seek(lengths_at * PAGE)
+        volume.write(lengths)
+        volume.seek(2 * PAGE)
+        volume.write((1).to_bytes(8, "big") * 2)
 
 
 def run_python(code, *words, **options):
@@ -120,19 +92,19 @@ def forked(work):
 
 
 class InAFolder(unittest.TestCase):
-    """A test in a folder of its own, which has the volume v.img."""
+    """A test in a folder of its own, which has the volume v.img. A commit of it has at most so many pages."""
 
-    slots, files, layout = 16, ("a=20000", "b=5000"), 1
+    pages, files, layout = 16, ("a=20000", "b=5000"), 5
 
     def setUp(self):
         folder = tempfile.TemporaryDirectory(prefix="famsync-")
         self.addCleanup(folder.cleanup)
         self.addCleanup(os.chdir, os.getcwd())
         os.chdir(folder.name)
-        self.make(self.slots, *self.files, layout=self.layout)
+        self.make(self.pages, *self.files, layout=self.layout)
 
-    def make(self, slots, *files, layout=1):
-        make_volume("v.img", slots, *files, layout=layout)
+    def make(self, pages, *files, layout=5):
+        make_volume("v.img", pages + 1, *files, layout=layout)
 
     def opened(self, **options):
         """A session, which ends with the test where that hasn't ended it."""

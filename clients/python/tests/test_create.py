@@ -4,28 +4,20 @@ import errno
 import os
 import unittest
 
-from support import KEY, InAFolder, famsync, layouts_with_log, log_blocks, make_volume
+from support import KEY, LAYOUTS, InAFolder, famsync, log_blocks, make_volume
 
 
 class Creating(InAFolder):
     def test_same_bytes(self):
-        for layout in (1, 2, 3, 4):
-            log, given = ("log=5000", 5000) if layout < 3 else ("log=0/5000", (0, 5000))
-            make_volume("theirs.img", 20, "bank=8192", log, layout=layout)
-            famsync.create(f"{layout}.img", {"bank": 8192, "log": given}, layout=layout, slots=20)
-            with open("theirs.img", "rb") as theirs, open(f"{layout}.img", "rb") as ours:
-                self.assertEqual(ours.read(), theirs.read())
-
-    def test_same_bytes_with_a_log(self):
-        for layout in layouts_with_log():
+        for layout in LAYOUTS:
             make_volume("theirs.img", 20, "bank=8192", "log=0/5000", layout=layout)
             how = {"log": log_blocks(20), "key": KEY if layout == 6 else 0}
             famsync.create(f"{layout}.img", {"bank": 8192, "log": (0, 5000)}, layout=layout, **how)
             with open("theirs.img", "rb") as theirs, open(f"{layout}.img", "rb") as ours:
                 self.assertEqual(ours.read(), theirs.read())
 
-    def test_a_log_is_used(self):
-        for layout in layouts_with_log():
+    def test_each_layout_is_used(self):
+        for layout in LAYOUTS:
             famsync.create(f"{layout}.img", {"bank": 8192, "log": (0, 100000)}, layout=layout)
             with famsync.open(f"{layout}.img") as volume:
                 self.assertEqual(volume.frames, 16366)
@@ -39,7 +31,7 @@ class Creating(InAFolder):
     def test_is_used(self):
         famsync.create("new.img", {"bank": 8192, "log": (0, 100000)}, preallocate=True)
         with famsync.open("new.img") as volume:
-            self.assertEqual((volume.files, volume.frames), ({"bank": 8192, "log": 0}, 1023))
+            self.assertEqual((volume.files, volume.frames), ({"bank": 8192, "log": 0}, 16366))
             volume.set_length("log", 100000)
             volume.write("log", 99999, b"x")
             volume.commit()
@@ -58,15 +50,10 @@ class Creating(InAFolder):
             ({"a": (2, 1)}, {}, "capacity"),
             ({"a": 1 << 63}, {}, "blocks"),
             ({"a": 1}, {"layout": 7}, "layout must be"),
-            ({"a": 1}, {"layout": 5, "slots": 20}, "instead of slots"),
             ({"a": 1}, {"layout": 5, "log": 3}, "4 to"),
             ({"a": 1}, {"layout": 5, "log": 0}, "log"),
             ({"a": 1}, {"layout": 5, "key": 1}, "key"),
-            ({"a": 1}, {"layout": 4, "log": 64}, "have a log"),
             ({"a": 1}, {"layout": 6, "key": 1 << 64}, "key"),
-            ({"a": (1, 2)}, {"layout": 1, "slots": 2}, "layout"),
-            ({"a": 1}, {"slots": 65536}, "slots"),
-            ({"a": 1}, {"slots": 0}, "slots"),
             ({"a": 1}, {"layout": 0}, "layout"),
             ({"a": -1}, {}, "length"),
             ({"a": (1, 1 << 64)}, {}, "capacity"),

@@ -125,7 +125,7 @@ class Opening(InAFolder):
 
 
 class InASession(InAFolder):
-    slots = 8
+    pages = 8
     files = ("a=131072", "b=5000")
 
     def test_names_and_numbers(self):
@@ -159,9 +159,6 @@ class InASession(InAFolder):
         self.says("the volume has no file 'c'", famsync.NoFile, volume.read, "c")
         own = "famsync_backup: the backup's file is the volume's file"
         self.says(own, famsync.Argument, volume.backup, Path("v.img"))
-
-    def test_invalid_in_a_layout_without_lengths(self):
-        self.assertRaises(famsync.Invalid, self.opened().set_length, "a", 5000)
 
     def test_more_pages_than_a_commit_has(self):
         volume = self.opened()

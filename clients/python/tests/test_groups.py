@@ -12,7 +12,7 @@ COMMITS = 30
 
 
 class Groups(InAFolder):
-    slots, files = 64, ("a=32768", "b=8192")
+    pages, files = 64, ("a=32768", "b=8192")
 
     def found(self, volume):
         """What is committed."""

@@ -50,7 +50,7 @@ class Interrupts(InAFolder):
             folder = tempfile.TemporaryDirectory(prefix="famsync-", dir="/dev/shm")
             self.addCleanup(folder.cleanup)
             os.chdir(folder.name)
-            self.make(self.slots, *self.files)
+            self.make(self.pages, *self.files)
 
     def at_steps(self, begin, interrupted, after, stride=20):
         """Lets an interrupt come at steps of a work in turn, until it is over before one comes."""

@@ -1,12 +1,12 @@
-"""Lengths that are set, in a volume of layout 3 or 4."""
+"""Lengths that are set."""
 
 import unittest
 
 from support import PAGE, InAFolder, famsync
 
 
-class InLayout3(InAFolder):
-    slots, files, layout = 6, ("a=5000/40000", "b=0/4096"), 3
+class InLayout5(InAFolder):
+    pages, files = 5, ("a=5000/40000", "b=0/4096")
 
     def test_what_is_refused(self):
         volume = self.opened()
@@ -51,11 +51,11 @@ class InLayout3(InAFolder):
             self.assertEqual((len(memory), len(other), memory[4999], memory[5000]), (20000, 4096, 5, 0))
 
 
-class InLayout4(InLayout3):
-    layout = 4
+class InLayout6(InLayout5):
+    layout = 6
 
-    def test_a_commit_of_more_pages_than_another_layout_has(self):
-        self.make(1501, "a=6144000", "b=5/4096", layout=4)
+    def test_a_commit_of_many_pages(self):
+        self.make(1500, "a=6144000", "b=5/4096")
         with famsync.open("v.img") as volume:
             self.assertEqual(volume.frames, 1500)
             with volume.memory("a") as memory:

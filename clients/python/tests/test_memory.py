@@ -301,7 +301,7 @@ class AtAnAddress(InAFolder):
 
 
 class Rollbacks(InAFolder):
-    slots, files, layout = 4, ("a=20000/40000", "b=5000"), 4
+    pages, files = 3, ("a=20000/40000", "b=5000")
 
     def test_stores_are_undone(self):
         for resident in (False, True):

@@ -8,7 +8,7 @@ from support import PACKAGE, TOP, InAFolder, run_python
 
 
 class Pages(InAFolder):
-    slots, files = 1020, ("bank=8192",)
+    pages, files = 1020, ("bank=8192",)
 
     def setUp(self):
         super().setUp()

@@ -8,7 +8,7 @@ from support import PAGE, InAFolder, famsync
 
 
 class Ranges(InAFolder):
-    slots, files = 64, ("a=200000", "b=5000")
+    pages, files = 64, ("a=200000", "b=5000")
 
     def test_random_ranges(self):
         volume, expected = self.opened(), bytearray(200000)

@@ -71,7 +71,7 @@ print("used" if used > 0 else "not used")
 
 
 class Threads(InAFolder):
-    slots, files = 64, ("a=131072", "b=8192")
+    pages, files = 64, ("a=131072", "b=8192")
 
     def test_commits(self):
         volume = self.opened()
@@ -196,7 +196,7 @@ class Threads(InAFolder):
     def test_lengths_beside_memory(self):
         """One thread sets and undoes lengths, and another one uses the last byte of memory that it opens: the length of
         open memory stays, or this process of its own dies of a store past the end."""
-        self.make(60, "a=65536/65536", "b=8192", layout=4)
+        self.make(59, "a=65536/65536", "b=8192")
         for rolls_back in (False, True):
             ran = run_python(LENGTHS_BESIDE_MEMORY, "back" if rolls_back else "")
             self.assertEqual((ran.returncode, ran.stdout, ran.stderr), (0, "used\n", ""))

@@ -40,7 +40,7 @@ refused(volume.commit)
 class Torn(InAFolder):
     def setUp(self):
         super().setUp()
-        make_volume("large.img", PAGES + 1, f"a={LENGTH}", "b=5000", layout=4)
+        make_volume("large.img", PAGES + 1, f"a={LENGTH}", "b=5000")
 
     def after(self, lines):
         """What a process prints that makes these calls after the refused one, and what the next session finds."""

@@ -23,7 +23,7 @@ Refused = (famsync.InTransaction, famsync.Torn)
 
 
 class Transactions(InAFolder):
-    slots, files, layout = 16, ("a=20000/40000", "b=5000"), 4
+    pages, files = 15, ("a=20000/40000", "b=5000")
 
     def found(self):
         """The first bytes of both files, as the next session finds them."""
@@ -204,7 +204,7 @@ class Transactions(InAFolder):
 class Interrupted(InAFolder):
     """What a program does that handles an interrupt, and goes on."""
 
-    slots, files, layout = 16, ("a=20000/40000", "b=5000"), 4
+    pages, files = 15, ("a=20000/40000", "b=5000")
 
     def setUp(self):
         super().setUp()
@@ -214,7 +214,7 @@ class Interrupted(InAFolder):
             folder = tempfile.TemporaryDirectory(prefix="famsync-", dir="/dev/shm")
             self.addCleanup(folder.cleanup)
             os.chdir(folder.name)
-            self.make(self.slots, *self.files, layout=self.layout)
+            self.make(self.pages, *self.files, layout=self.layout)
 
     def change(self, volume, number, fails):
         with volume.transaction():
@@ -268,7 +268,7 @@ class Interrupted(InAFolder):
             there = {False: 0, True: 0}
             step, came = 0, True
             while came:
-                self.make(self.slots, *self.files, layout=self.layout)
+                self.make(self.pages, *self.files, layout=self.layout)
                 came, is_there = self.at_step(step, fails)
                 there[is_there] += 1
                 step += 1 if os.environ.get("STEPS") == "all" else random.randint(1, 9)
@@ -282,7 +282,7 @@ class Interrupted(InAFolder):
             self.change(volume, 1, False)
         there, most = 0, max(0.002, 4 * (time.monotonic() - began))
         for turn in range(SIGNALS):
-            self.make(self.slots, *self.files, layout=self.layout)
+            self.make(self.pages, *self.files, layout=self.layout)
             volume, number = famsync.open("v.img", foreground=True), turn % 250 + 1
             with suppress(KeyboardInterrupt, ZeroDivisionError):
                 try:

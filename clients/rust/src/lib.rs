@@ -6,7 +6,7 @@
 //! ```
 //! # include!(concat!(env!("CARGO_MANIFEST_DIR"), "/tests/volumes/mod.rs"));
 //! # fn main() -> Result<(), famsync::Error> {
-//! # let made = make_volume(1, 16, "bank=8192");
+//! # let made = make_volume(5, 16, "bank=8192");
 //! # let path = &made.path();
 //! let mut volume = famsync::Volume::open(path)?;
 //! let bank = volume.memory_mut("bank")?;

@@ -15,7 +15,7 @@ pub(crate) const MESSAGE: usize = 9000;
 /// ```
 /// # include!(concat!(env!("CARGO_MANIFEST_DIR"), "/tests/volumes/mod.rs"));
 /// # fn main() -> Result<(), famsync::Error> {
-/// # let made = make_volume(1, 16, "bank=8192");
+/// # let made = make_volume(5, 16, "bank=8192");
 /// # let path = &made.path();
 /// let volume = famsync::Options::new().frames(8).foreground(true).open(path)?;
 /// assert_eq!(volume.frames(), 8);

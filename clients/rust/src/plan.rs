@@ -13,7 +13,7 @@ use std::path::Path;
 /// # let path = &std::env::temp_dir().join(format!("plan-{}.vol", std::process::id()));
 /// famsync::Plan::new().file("bank", 8192).growing("log", 0, 1 << 40).make(path)?;
 /// let volume = famsync::Volume::open(path)?;
-/// assert_eq!((volume.frames(), volume.files().count()), (1023, 2));
+/// assert_eq!((volume.frames(), volume.files().count()), (16366, 2));
 /// # std::fs::remove_file(path).unwrap();
 /// # Ok(())
 /// # }
@@ -30,12 +30,12 @@ pub struct Plan {
 
 impl Default for Plan {
     fn default() -> Plan {
-        Plan { layout: 4, slots: None, log: None, key: 0, files: Vec::new(), preallocate: false }
+        Plan { layout: 5, slots: None, log: None, key: 0, files: Vec::new(), preallocate: false }
     }
 }
 
 impl Plan {
-    /// A volume of layout 4, with 1,024 slots and no files yet.
+    /// A volume of layout 5, with a log of 64 MB and no files yet.
     pub fn new() -> Plan {
         Plan::default()
     }

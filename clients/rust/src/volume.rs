@@ -200,7 +200,7 @@ impl Volume {
     /// ```
     /// # include!(concat!(env!("CARGO_MANIFEST_DIR"), "/tests/volumes/mod.rs"));
     /// # fn main() -> Result<(), famsync::Error> {
-    /// # let made = make_volume(1, 16, "bank=8192");
+    /// # let made = make_volume(5, 16, "bank=8192");
     /// # let mut volume = famsync::Volume::open(made.path())?;
     /// volume.transaction(|volume| -> Result<(), famsync::Error> {
     ///     let bank = volume.memory_mut("bank")?;
@@ -241,7 +241,7 @@ impl Volume {
     /// # include!(concat!(env!("CARGO_MANIFEST_DIR"), "/tests/volumes/mod.rs"));
     /// # use std::sync::atomic::Ordering;
     /// # fn main() -> Result<(), famsync::Error> {
-    /// # let made = make_volume(1, 16, "bank=8192");
+    /// # let made = make_volume(5, 16, "bank=8192");
     /// # let volume = famsync::Volume::open(made.path())?;
     /// let bank = volume.words("bank")?;
     /// std::thread::scope(|scope| {
@@ -305,7 +305,7 @@ impl Volume {
     /// ```
     /// # include!(concat!(env!("CARGO_MANIFEST_DIR"), "/tests/volumes/mod.rs"));
     /// # fn main() -> Result<(), famsync::Error> {
-    /// # let made = make_volume(4, 16, "log=4096/8192");
+    /// # let made = make_volume(5, 16, "log=4096/8192");
     /// # let mut volume = famsync::Volume::open(made.path())?;
     /// volume.memory_mut("log")?[0] = 1;
     /// volume.resize("log", 8192)?;
@@ -372,7 +372,7 @@ impl Volume {
     /// ```
     /// # include!(concat!(env!("CARGO_MANIFEST_DIR"), "/tests/volumes/mod.rs"));
     /// # fn main() -> Result<(), famsync::Error> {
-    /// # let made = make_volume(1, 16, "bank=8192");
+    /// # let made = make_volume(5, 16, "bank=8192");
     /// # let path = &made.path();
     /// let mut volume = famsync::Volume::open(path)?;
     /// let bank = volume.memory_mut("bank")?;
@@ -392,7 +392,7 @@ impl Volume {
     /// ```
     /// # include!(concat!(env!("CARGO_MANIFEST_DIR"), "/tests/volumes/mod.rs"));
     /// # fn main() -> Result<(), famsync::Error> {
-    /// # let made = make_volume(1, 16, "bank=8192");
+    /// # let made = make_volume(5, 16, "bank=8192");
     /// # let mut volume = famsync::Volume::open(made.path())?;
     /// std::thread::scope(|scope| -> Result<(), famsync::Error> {
     ///     for part in volume.memory_mut("bank")?.chunks_mut(2048) {
@@ -454,7 +454,7 @@ impl Volume {
     /// ```
     /// # include!(concat!(env!("CARGO_MANIFEST_DIR"), "/tests/volumes/mod.rs"));
     /// # fn main() -> Result<(), famsync::Error> {
-    /// # let made = make_volume(1, 16, "heap=8192");
+    /// # let made = make_volume(5, 16, "heap=8192");
     /// let mut volume = famsync::Volume::open(made.path())?;
     /// volume.open_memory_at("heap", 0x2000_0000_0000)?;
     /// assert_eq!(volume.memory_mut("heap")?.as_ptr() as usize, 0x2000_0000_0000);
@@ -479,7 +479,7 @@ impl Volume {
     /// # include!(concat!(env!("CARGO_MANIFEST_DIR"), "/tests/volumes/mod.rs"));
     /// # use std::sync::atomic::Ordering;
     /// # fn main() -> Result<(), famsync::Error> {
-    /// # let made = make_volume(1, 16, "counts=8192");
+    /// # let made = make_volume(5, 16, "counts=8192");
     /// # let volume = famsync::Volume::open(made.path())?;
     /// let counts = volume.words("counts")?;
     /// std::thread::scope(|scope| {
@@ -519,7 +519,7 @@ impl Volume {
     /// # include!(concat!(env!("CARGO_MANIFEST_DIR"), "/tests/volumes/mod.rs"));
     /// # use std::io::Read;
     /// # fn main() -> Result<(), famsync::Error> {
-    /// # let made = make_volume(1, 16, "bank=8192");
+    /// # let made = make_volume(5, 16, "bank=8192");
     /// let mut volume = famsync::Volume::open(made.path())?;
     /// volume.touch("bank", ..100)?;
     /// let mut zeros = std::fs::File::open("/dev/zero").unwrap();
@@ -566,7 +566,7 @@ impl Volume {
 /// ```
 /// # include!(concat!(env!("CARGO_MANIFEST_DIR"), "/tests/volumes/mod.rs"));
 /// # fn main() -> Result<(), famsync::Error> {
-/// # let made = make_volume(1, 16, "log=8192");
+/// # let made = make_volume(5, 16, "log=8192");
 /// # let volume = famsync::Volume::open(made.path())?;
 /// volume.write("log", 5000, b"hello")?;
 /// volume.commit()?;
@@ -705,7 +705,7 @@ impl Volume {
     /// ```
     /// # include!(concat!(env!("CARGO_MANIFEST_DIR"), "/tests/volumes/mod.rs"));
     /// # fn main() -> Result<(), Box<dyn std::error::Error>> {
-    /// # let made = make_volume(1, 16, "bank=8192");
+    /// # let made = make_volume(5, 16, "bank=8192");
     /// # let (volume, path) = (famsync::Volume::open(made.path())?, made.beside("copy.vol"));
     /// let file = std::fs::OpenOptions::new().read(true).write(true).create_new(true).open(&path)?;
     /// volume.backup(&file)?;

@@ -20,7 +20,7 @@ fn code<T>(answer: Result<T, Error>) -> Code {
 
 #[test]
 fn arguments() {
-    let made = make_volume(1, 16, "a=8192");
+    let made = make_volume(5, 17, "a=8192");
     assert_eq!(code(Volume::open("")), Code::Argument);
     assert_eq!(code(Volume::open("a\0b")), Code::Argument);
     let mut volume = Volume::open(made.path()).unwrap();
@@ -37,7 +37,7 @@ fn text<T>(answer: Result<T, Error>) -> String {
 
 #[test]
 fn texts() {
-    let made = make_volume(4, 8, "a=65536 b=8192/40000");
+    let made = make_volume(5, 8, "a=65536 b=8192/40000");
     let mut volume = Volume::open(made.path()).unwrap();
     let touched = "famsync_memory_touch: offset 8000 with 193 bytes ends past the 8192 bytes of \"b\"";
     assert_eq!(text(volume.touch("b", 8000..8193)), touched);
@@ -53,7 +53,7 @@ fn texts() {
 
 #[test]
 fn names_of_files() {
-    let mut volume = Volume::open(make_volume(1, 16, "a=8192").path()).unwrap();
+    let mut volume = Volume::open(make_volume(5, 17, "a=8192").path()).unwrap();
     let error = volume.memory("b").unwrap_err();
     assert_eq!((error.code(), error.to_string()), (Code::NoFile, "the volume has no file \"b\"".into()));
     for name in ["", "a\0", "A", "aa"] {
@@ -71,7 +71,7 @@ fn names_of_files() {
 
 #[test]
 fn other_files() {
-    let made = make_volume(1, 16, "a=8192");
+    let made = make_volume(5, 17, "a=8192");
     let error = Volume::open(made.beside("nowhere")).unwrap_err();
     assert_eq!(error.code(), Code::System);
     assert_eq!(error.system().map(|system| system.kind()), Some(std::io::ErrorKind::NotFound));
@@ -84,7 +84,7 @@ fn other_files() {
 
 #[test]
 fn in_use() {
-    let made = make_volume(1, 16, "a=8192");
+    let made = make_volume(5, 17, "a=8192");
     let volume = Volume::open(made.path()).unwrap();
     let error = Volume::open(made.path()).unwrap_err();
     assert_eq!(error.code(), Code::InUse);
@@ -96,7 +96,7 @@ fn in_use() {
 
 #[test]
 fn waiting() {
-    let made = make_volume(1, 16, "a=8192");
+    let made = make_volume(5, 17, "a=8192");
     let volume = Volume::open(made.path()).unwrap();
     let open = |wait| Options::new().wait(Duration::from_millis(wait)).open(made.path());
     let began = Instant::now();
@@ -113,7 +113,7 @@ fn waiting() {
 
 #[test]
 fn sessions_that_only_read() {
-    let made = make_volume(3, 16, "a=8192");
+    let made = make_volume(5, 16, "a=8192");
     let read = || Options::new().readonly(true).open(made.path());
     let mut volume = Volume::open(made.path()).unwrap();
     volume.memory_mut("a").unwrap()[0] = 7;
@@ -142,7 +142,7 @@ fn the_version() {
 
 #[test]
 fn spoilt_volumes() {
-    let made = make_volume(1, 16, "a=8192");
+    let made = make_volume(5, 17, "a=8192");
     let file = OpenOptions::new().write(true).open(made.path()).unwrap();
     file.set_len(20 * 4096).unwrap();
     assert_eq!(code(Volume::open(made.path())), Code::Damaged);
@@ -152,7 +152,7 @@ fn spoilt_volumes() {
 
 #[test]
 fn suspect_volumes() {
-    let made = make_volume(1, 16, "a=8192");
+    let made = make_volume(5, 17, "a=8192");
     fs::write(made.beside("v.img.suspect"), "").unwrap();
     let error = Volume::open(made.path()).unwrap_err();
     assert_eq!(error.code(), Code::Suspect);
@@ -163,7 +163,7 @@ fn suspect_volumes() {
 
 #[test]
 fn shapes() {
-    let made = make_volume(1, 16, "a=8192");
+    let made = make_volume(5, 17, "a=8192");
     assert_eq!(code(Options::new().frames(17).open(made.path())), Code::Shape);
     for copies in [0, 64, 65] {
         let volume = Options::new().frames(5).copies(copies).foreground(true).open(made.path()).unwrap();

@@ -53,7 +53,7 @@ fn found(bank: &Path, volume: &Path) -> i64 {
 fn the_sum_holds(name: &str, side: i64) {
     let bank = &example(name);
     let kills: u32 = env::var("KILLS").map_or(25, |kills| kills.parse().unwrap());
-    let made = make_volume(2, 64, "bank=16384");
+    let made = make_volume(5, 65, "bank=16384");
     let mut known = 0;
     for turn in 0..kills {
         let time = Duration::from_micros(RandomState::new().build_hasher().finish() % 100_000);
@@ -78,7 +78,7 @@ fn the_sum_of_transactions_holds() {
 
 fn makes_as_many_as_are_asked_for(name: &str) {
     let bank = &example(name);
-    let made = make_volume(1, 16, "bank=8192");
+    let made = make_volume(5, 17, "bank=8192");
     for made_before in [0, 30] {
         assert_eq!(found(bank, &made.path()), made_before);
         let ran = Command::new(bank).arg(made.path()).arg("30").output().unwrap();

@@ -3,7 +3,7 @@
 mod volumes;
 
 use famsync::{Code, Options, Volume};
-use volumes::{layouts_with_log, make_volume};
+use volumes::{make_volume, LAYOUTS};
 
 fn length(volume: &Volume, name: &str) -> u64 {
     volume.files().find(|file| file.name == name).unwrap().length
@@ -11,8 +11,8 @@ fn length(volume: &Volume, name: &str) -> u64 {
 
 #[test]
 fn a_file_grows_and_shrinks() {
-    grows_and_shrinks(3);
-    grows_and_shrinks(4);
+    grows_and_shrinks(5);
+    grows_and_shrinks(6);
 }
 
 fn grows_and_shrinks(layout: u8) {
@@ -42,7 +42,7 @@ fn grows_and_shrinks(layout: u8) {
 #[test]
 fn memory_grows_and_shrinks_in_place() {
     for resident in [false, true] {
-        let made = make_volume(4, 16, "a=5000/40000 b=8192");
+        let made = make_volume(5, 16, "a=5000/40000 b=8192");
         let mut volume = Options::new().resident(resident).budget(1).open(made.path()).unwrap();
         let a = volume.memory_mut("a").unwrap();
         a[4999] = 7;
@@ -67,7 +67,7 @@ fn memory_grows_and_shrinks_in_place() {
 
 #[test]
 fn what_is_past_the_end() {
-    for layout in [3, 4] {
+    for layout in LAYOUTS {
         let volume = Volume::open(make_volume(layout, 16, "a=5000/40000").path()).unwrap();
         assert_eq!(volume.write("a", 8192, b"hello").unwrap_err().code(), Code::Einval);
         volume.set_length("a", 8200).unwrap();
@@ -77,8 +77,8 @@ fn what_is_past_the_end() {
 }
 
 #[test]
-fn a_commit_has_more_pages_than_another_layout_has() {
-    let made = make_volume(4, 1501, "a=6144000");
+fn a_commit_has_many_pages() {
+    let made = make_volume(5, 1501, "a=6144000");
     let mut volume = Volume::open(made.path()).unwrap();
     assert_eq!(volume.frames(), 1500);
     let a = volume.memory_mut("a").unwrap();
@@ -93,17 +93,8 @@ fn a_commit_has_more_pages_than_another_layout_has() {
 }
 
 #[test]
-fn what_keeps_its_length() {
-    for layout in [1, 2] {
-        let volume = Volume::open(make_volume(layout, 16, "a=5000").path()).unwrap();
-        assert_eq!(volume.set_length("a", 4000).unwrap_err().code(), Code::Einval);
-        assert_eq!(length(&volume, "a"), 5000);
-    }
-}
-
-#[test]
 fn a_file_is_resized_after_a_commit_that_failed() {
-    for layout in [4].into_iter().chain(layouts_with_log()) {
+    for layout in LAYOUTS {
         resizes_after_failure(layout, false);
         resizes_after_failure(layout, true);
     }

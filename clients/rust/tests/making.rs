@@ -5,25 +5,11 @@ mod volumes;
 use famsync::{Code, Options, Plan, Volume};
 use std::fs;
 use std::io::ErrorKind;
-use volumes::{layouts_with_log, log_blocks, make_volume, KEY};
+use volumes::{log_blocks, make_volume, KEY, LAYOUTS};
 
 #[test]
 fn same_bytes() {
-    for layout in 1..=4u8 {
-        let files = if layout < 3 { "a=8192 b=5000" } else { "a=8192 b=0/5000" };
-        let made = make_volume(layout, 20, files);
-        let written = fs::read(made.path()).unwrap();
-        fs::remove_file(made.path()).unwrap();
-        let mut plan = Plan::new();
-        plan.layout(u32::from(layout)).slots(20).file("a", 8192);
-        plan.growing("b", if layout < 3 { 5000 } else { 0 }, 5000).make(made.path()).unwrap();
-        assert!(fs::read(made.path()).unwrap() == written, "layout {layout}");
-    }
-}
-
-#[test]
-fn same_bytes_with_a_log() {
-    for layout in layouts_with_log() {
+    for layout in LAYOUTS {
         let made = make_volume(layout, 20, "a=8192 b=0/5000");
         let written = fs::read(made.path()).unwrap();
         fs::remove_file(made.path()).unwrap();
@@ -35,9 +21,9 @@ fn same_bytes_with_a_log() {
 }
 
 #[test]
-fn a_log_is_used() {
-    for layout in layouts_with_log() {
-        let made = make_volume(1, 2, "a=1");
+fn each_layout_is_used() {
+    for layout in LAYOUTS {
+        let made = make_volume(5, 2, "a=1");
         fs::remove_file(made.path()).unwrap();
         let plan = Plan::new().layout(u32::from(layout)).file("bank", 8192).clone();
         let mut volume = Volume::create(made.path(), &plan).unwrap();
@@ -54,14 +40,14 @@ fn a_log_is_used() {
 
 #[test]
 fn created() {
-    let made = make_volume(1, 2, "a=1");
+    let made = make_volume(5, 2, "a=1");
     let plan = Plan::new().file("bank", 8192).growing("log", 10, 100_000).preallocate(true).clone();
     let refused = Volume::create(made.path(), &plan).unwrap_err();
     assert_eq!((refused.code(), refused.system().unwrap().kind()), (Code::System, ErrorKind::AlreadyExists));
     fs::remove_file(made.path()).unwrap();
     let mut volume = Volume::create(made.path(), &plan).unwrap();
     let files: Vec<_> = volume.files().map(|file| (file.name.to_string(), file.length)).collect();
-    assert_eq!((volume.frames(), files), (1023, vec![("bank".into(), 8192), ("log".into(), 10)]));
+    assert_eq!((volume.frames(), files), (16366, vec![("bank".into(), 8192), ("log".into(), 10)]));
     volume.memory_mut("bank").unwrap()[8191] = 7;
     volume.set_length("log", 100_000).unwrap();
     volume.commit().unwrap();
@@ -72,7 +58,7 @@ fn created() {
 
 #[test]
 fn refused() {
-    let made = make_volume(1, 2, "a=1");
+    let made = make_volume(5, 2, "a=1");
     fs::remove_file(made.path()).unwrap();
     let plans = [
         Plan::new(),
@@ -84,14 +70,9 @@ fn refused() {
         Plan::new().file("a", u64::MAX).clone(),
         Plan::new().file("a", 1).layout(0).clone(),
         Plan::new().file("a", 1).layout(7).clone(),
-        Plan::new().file("a", 1).layout(5).slots(20).clone(),
         Plan::new().file("a", 1).layout(5).log(3).clone(),
         Plan::new().file("a", 1).layout(5).log(0).clone(),
         Plan::new().file("a", 1).layout(5).key(1).clone(),
-        Plan::new().file("a", 1).log(64).clone(),
-        Plan::new().file("a", 1).slots(0).clone(),
-        Plan::new().file("a", 1).slots(65536).clone(),
-        Plan::new().growing("a", 1, 2).layout(1).slots(2).clone(),
     ];
     for plan in plans {
         let error = plan.make(made.path()).unwrap_err();

@@ -13,7 +13,7 @@ use volumes::make_volume;
 
 #[test]
 fn stores_are_kept_by_a_commit() {
-    let made = make_volume(1, 16, "a=20000 b=5000");
+    let made = make_volume(5, 17, "a=20000 b=5000");
     let mut volume = Volume::open(made.path()).unwrap();
     let files: Vec<_> = volume.files().map(|file| (file.name.to_string(), file.length)).collect();
     assert_eq!(files, [("a".to_string(), 20000), ("b".to_string(), 5000)]);
@@ -44,7 +44,7 @@ fn each_store_before_a_commit_is_in_it() {
         volume.commit().unwrap();
         volume.memory_mut("a").unwrap()[0] = byte + 1;
     }
-    let made = make_volume(1, 16, "a=8192");
+    let made = make_volume(5, 17, "a=8192");
     let mut volume = Volume::open(made.path()).unwrap();
     for byte in 1..9 {
         rewrite(&mut volume, byte);
@@ -55,7 +55,7 @@ fn each_store_before_a_commit_is_in_it() {
 
 #[test]
 fn too_many_pages() {
-    let made = make_volume(1, 8, "a=81920");
+    let made = make_volume(5, 9, "a=81920");
     let mut volume = Volume::open(made.path()).unwrap();
     assert_eq!(volume.frames(), 8);
     let store = |volume: &mut Volume, pages: usize, byte| {
@@ -76,7 +76,7 @@ fn too_many_pages() {
 /// Pages that `write` wrote and those of memory are counted together, and nothing is stored that doesn't fit.
 #[test]
 fn too_many_pages_in_both_ways() {
-    let made = make_volume(1, 8, "a=81920");
+    let made = make_volume(5, 9, "a=81920");
     let mut volume = Volume::open(made.path()).unwrap();
     volume.write("a", 16 * 4096, &[9; 4 * 4096]).unwrap();
     let a = volume.memory_mut("a").unwrap();
@@ -92,7 +92,7 @@ fn too_many_pages_in_both_ways() {
 
 #[test]
 fn rollbacks() {
-    let made = make_volume(4, 16, "a=20000/40000 b=8192");
+    let made = make_volume(5, 16, "a=20000/40000 b=8192");
     for resident in [false, true] {
         let mut volume = Options::new().resident(resident).open(made.path()).unwrap();
         volume.memory_mut("a").unwrap()[..5000].fill(7);
@@ -122,7 +122,7 @@ fn rollbacks() {
 /// With `resident` it doesn't matter what becomes of the volume's file.
 #[test]
 fn a_file_that_others_change() {
-    let made = make_volume(1, 4, "a=40960");
+    let made = make_volume(5, 5, "a=40960");
     let volume = Options::new().resident(true).open(made.path()).unwrap();
     let bytes = volume.memory("a").unwrap();
     let file = OpenOptions::new().write(true).open(made.path()).unwrap();
@@ -134,7 +134,7 @@ fn a_file_that_others_change() {
 
 #[test]
 fn transactions() {
-    let made = make_volume(1, 4, "a=40960 b=8192");
+    let made = make_volume(5, 5, "a=40960 b=8192");
     let mut volume = Volume::open(made.path()).unwrap();
     let store = |volume: &mut Volume, pages: usize, byte| {
         volume.transaction(|volume| -> Result<usize, Error> {
@@ -177,7 +177,7 @@ fn transactions() {
 
 #[test]
 fn tracked_by_the_kernel() {
-    let made = make_volume(4, 16, "a=20000/40000");
+    let made = make_volume(5, 16, "a=20000/40000");
     let opened = Options::new().kernel_tracking(true).open(made.path());
     if opened.as_ref().is_err_and(|error| error.code() == Code::Tracking) {
         return;
@@ -197,7 +197,7 @@ fn tracked_by_the_kernel() {
 
 #[test]
 fn at_an_address() {
-    let made = make_volume(1, 16, "a=8192 b=8192");
+    let made = make_volume(5, 17, "a=8192 b=8192");
     let address = 0x2100_0000_0000;
     for round in 0..3 {
         let mut volume = Volume::open(made.path()).unwrap();
@@ -217,7 +217,7 @@ fn at_an_address() {
 
 #[test]
 fn bytes_or_words() {
-    let made = make_volume(1, 16, "a=8192 b=5001");
+    let made = make_volume(5, 17, "a=8192 b=5001");
     let mut volume = Volume::open(made.path()).unwrap();
     volume.memory_mut("a").unwrap()[8] = 1;
     let words = volume.words("a").unwrap();
@@ -237,7 +237,7 @@ fn bytes_or_words() {
 
 #[test]
 fn the_kernel_stores_through_no_handler() {
-    let made = make_volume(1, 16, "a=8192");
+    let made = make_volume(5, 17, "a=8192");
     let mut volume = Volume::open(made.path()).unwrap();
     let mut zeros = File::open("/dev/zero").unwrap();
     let a = volume.memory_mut("a").unwrap();
@@ -250,7 +250,7 @@ fn the_kernel_stores_through_no_handler() {
 
 #[test]
 fn pages_that_are_opened_ahead() {
-    let made = make_volume(1, 3, "a=20000");
+    let made = make_volume(5, 4, "a=20000");
     let mut volume = Volume::open(made.path()).unwrap();
     let mut ones = repeat(1).take(4106);
     volume.touch("a", 4090..8196).unwrap();
@@ -272,7 +272,7 @@ fn pages_that_are_opened_ahead() {
 
 #[test]
 fn many_sessions() {
-    let made = make_volume(2, 16, "a=8192 b=8192");
+    let made = make_volume(5, 17, "a=8192 b=8192");
     for round in 1..30u8 {
         let mut volume = Volume::open(made.path()).unwrap();
         let [a, b] = volume.memories_mut(["a", "b"]).unwrap();

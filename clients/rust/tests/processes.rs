@@ -47,8 +47,8 @@ fn stored_to() -> Volume {
 
 #[test]
 fn a_device_that_fails() {
-    let made = make_volume(1, 16, "a=8192");
-    child_succeeds("writes_are_refused", &made, "trap '' XFSZ; ulimit -f 4");
+    let made = make_volume(5, 17, "a=8192");
+    child_succeeds("writes_are_refused", &made, "trap '' XFSZ; ulimit -f 32");
     assert_eq!(Volume::open(made.path()).unwrap().memory("a").unwrap()[0], 0);
 }
 
@@ -72,7 +72,7 @@ fn is_too_large(error: Error, code: Code) {
 
 #[test]
 fn memory_that_is_refused() {
-    let made = make_volume(1, 16, "a=1073741824");
+    let made = make_volume(5, 17, "a=1073741824");
     child_succeeds("memory_is_refused", &made, "ulimit -v 1500000");
 }
 
@@ -87,7 +87,7 @@ fn memory_is_refused() {
 
 #[test]
 fn a_volume_that_a_crash_left() {
-    let made = make_volume(1, 16, "a=8192");
+    let made = make_volume(5, 17, "a=8192");
     let ran = run_child("commits_and_ends", &made, "ulimit -c 0");
     assert_eq!(ran.status.signal(), Some(SIGABRT), "{}", String::from_utf8_lossy(&ran.stderr));
     let read = || Options::new().readonly(true).open(made.path());
@@ -114,7 +114,7 @@ extern "C" {
 
 #[test]
 fn a_forked_process() {
-    let made = make_volume(1, 16, "a=8192");
+    let made = make_volume(5, 17, "a=8192");
     child_succeeds("forks", &made, "");
     assert_eq!(Volume::open(made.path()).unwrap().memory("a").unwrap()[0], 1);
 }
@@ -140,7 +140,7 @@ fn forks() {
 /// A child has the descriptors of its parent until it is another program.
 #[test]
 fn programs_that_are_started() {
-    let made = make_volume(1, 16, "a=8192");
+    let made = make_volume(5, 17, "a=8192");
     let stopped = AtomicBool::new(false);
     thread::scope(|scope| {
         scope.spawn(|| {
@@ -156,7 +156,7 @@ fn programs_that_are_started() {
 
 #[test]
 fn a_stack_that_overflows() {
-    let made = make_volume(1, 16, "a=8192");
+    let made = make_volume(5, 17, "a=8192");
     let ran = run_child("overflow", &made, "ulimit -c 0");
     let said = String::from_utf8_lossy(&ran.stderr);
     assert!(said.contains("thread 'deep'") && said.contains("has overflowed its stack"), "{said}");
@@ -178,7 +178,7 @@ fn overflow() {
 
 #[test]
 fn a_fault_of_nobody() {
-    let made = make_volume(1, 16, "a=8192");
+    let made = make_volume(5, 17, "a=8192");
     let ran = run_child("fault", &made, "ulimit -c 0");
     assert_eq!(ran.status.signal(), Some(SIGSEGV), "{}", String::from_utf8_lossy(&ran.stderr));
 }

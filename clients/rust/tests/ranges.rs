@@ -5,7 +5,7 @@ mod volumes;
 use famsync::{Code, Error, Options, Volume};
 use std::fs::{File, OpenOptions};
 use std::thread;
-use volumes::{layouts_with_log, log_blocks, make_volume, Made};
+use volumes::{log_blocks, make_volume, Made, LAYOUTS};
 
 fn refusal<T: std::fmt::Debug>(answer: Result<T, Error>) -> (Code, usize) {
     let error = answer.unwrap_err();
@@ -14,7 +14,7 @@ fn refusal<T: std::fmt::Debug>(answer: Result<T, Error>) -> (Code, usize) {
 
 #[test]
 fn writes_are_read_and_kept() {
-    let made = make_volume(1, 16, "a=20000 b=20000");
+    let made = make_volume(5, 17, "a=20000 b=20000");
     let volume = Volume::open(made.path()).unwrap();
     let bytes: Vec<u8> = (0..9000u32).map(|place| (place % 251) as u8).collect();
     volume.write("b", 3000, &bytes).unwrap();
@@ -32,7 +32,7 @@ fn writes_are_read_and_kept() {
 
 #[test]
 fn the_end_of_a_file() {
-    let volume = Volume::open(make_volume(1, 16, "a=5000").path()).unwrap();
+    let volume = Volume::open(make_volume(5, 17, "a=5000").path()).unwrap();
     volume.write("a", 4999, b"7").unwrap();
     for (offset, count, found) in
         [(4998, 2, 2), (4998, 3, 2), (4999, 100, 1), (5000, 1, 0), (u64::MAX, 9, 0), (0, 0, 0)]
@@ -47,7 +47,7 @@ fn the_end_of_a_file() {
 
 #[test]
 fn what_is_refused() {
-    let made = make_volume(1, 4, "a=20480");
+    let made = make_volume(5, 5, "a=20480");
     let volume = Volume::open(made.path()).unwrap();
     assert_eq!(refusal(volume.read("b", 0, &mut [0])), (Code::NoFile, 0));
     assert_eq!(refusal(volume.write("b", 0, &[0])), (Code::NoFile, 0));
@@ -64,7 +64,7 @@ fn what_is_refused() {
 /// A file whose memory is open is read by that, and isn't written past those who share it.
 #[test]
 fn both_ways() {
-    let mut volume = Volume::open(make_volume(1, 16, "a=8192 b=8192").path()).unwrap();
+    let mut volume = Volume::open(make_volume(5, 17, "a=8192 b=8192").path()).unwrap();
     let mut found = [0; 2];
     volume.write("a", 0, b"x").unwrap();
     assert_eq!(volume.memory("a").unwrap()[..2], *b"x\0");
@@ -88,7 +88,7 @@ fn both_ways() {
 
 #[test]
 fn threads_write_and_read() {
-    let volume = Volume::open(make_volume(4, 64, "a=131072").path()).unwrap();
+    let volume = Volume::open(make_volume(5, 64, "a=131072").path()).unwrap();
     thread::scope(|scope| {
         for number in 0..8u64 {
             let volume = &volume;
@@ -111,7 +111,7 @@ fn new_file(made: &Made) -> File {
 
 #[test]
 fn a_backup() {
-    let made = make_volume(3, 16, "a=20000 b=5000/9000");
+    let made = make_volume(5, 16, "a=20000 b=5000/9000");
     let mut volume = Volume::open(made.path()).unwrap();
     volume.write("a", 4095, b"first").unwrap();
     volume.set_length("b", 7).unwrap();
@@ -128,7 +128,7 @@ fn a_backup() {
 
 #[test]
 fn what_is_no_place_for_a_backup() {
-    let made = make_volume(1, 16, "a=8192");
+    let made = make_volume(5, 17, "a=8192");
     let volume = Volume::open(made.path()).unwrap();
     drop(new_file(&made));
     assert_eq!(refusal(volume.backup(File::open(made.beside("copy.img")).unwrap())).0, Code::Argument);
@@ -143,16 +143,16 @@ fn what_is_no_place_for_a_backup() {
 
 #[test]
 fn numbers_of_a_volume() {
-    let made = make_volume(4, 8, "a=65536 b=0/5000");
+    let made = make_volume(5, 8, "a=65536 b=0/5000");
     let blocks = std::fs::metadata(made.path()).unwrap().len() / 4096;
     let volume = Options::new().frames(3).open(made.path()).unwrap();
     let info = volume.info().unwrap();
-    assert_eq!((info.layout, info.blocks, info.files, info.slots), (4, blocks, 2, 8));
-    assert_eq!((info.log, info.log_used, info.frames, info.readonly), (0, 0, 7, false));
+    assert_eq!((info.layout, info.blocks, info.files, info.slots), (5, blocks, 2, 0));
+    assert_eq!((info.log, info.log_used, info.frames, info.readonly), (log_blocks(8), 0, 7, false));
     assert_eq!((volume.frames(), volume.files().map(|file| file.capacity).collect()), (3, vec![65536, 5000]));
     drop(volume);
     assert!(Options::new().readonly(true).open(made.path()).unwrap().info().unwrap().readonly);
-    for layout in layouts_with_log() {
+    for layout in LAYOUTS {
         let volume = Options::new().foreground(true).open(make_volume(layout, 8, "a=65536").path()).unwrap();
         volume.write("a", 0, b"x").unwrap();
         volume.commit().unwrap();
@@ -163,15 +163,15 @@ fn numbers_of_a_volume() {
 
 #[test]
 fn numbers_of_a_session() {
-    let mut volume = Options::new().foreground(true).open(make_volume(1, 16, "a=20000 b=4096").path()).unwrap();
+    let mut volume = Options::new().foreground(true).open(make_volume(5, 17, "a=20000 b=4096").path()).unwrap();
     let before = volume.stat().unwrap();
-    assert_eq!((before.commits, before.frames, before.staged, before.writes), (0, 16, 0, 0));
+    assert_eq!((before.commits, before.frames, before.staged, before.unwritten), (0, 16, 0, 0));
     volume.write("a", 4095, b"xy").unwrap();
     volume.memory_mut("b").unwrap()[0] = 1;
     assert_eq!(volume.stat().unwrap().staged, 3);
     volume.commit().unwrap();
     let after = volume.stat().unwrap();
-    assert_eq!((after.commits, after.staged, after.unwritten, after.syncs), (1, 0, 3, before.syncs + 2));
-    assert_eq!((after.writes, after.bytes_written), (2, 4 * 4096 + 1));
+    assert_eq!((after.commits, after.staged, after.unwritten, after.syncs), (1, 0, 4, before.syncs + 2));
+    assert_eq!((after.writes, after.bytes_written), (before.writes + 2, before.bytes_written + 4 * 4096 + 1));
     assert!(after.reads > 0 && after.memory > 0);
 }

@@ -17,7 +17,7 @@ const THREADS: usize = 4;
 
 #[test]
 fn parts_of_one_memory() {
-    let made = make_volume(1, 64, "a=163840");
+    let made = make_volume(5, 65, "a=163840");
     let mut volume = Volume::open(made.path()).unwrap();
     for round in 1..20u8 {
         thread::scope(|scope| {
@@ -37,7 +37,7 @@ fn parts_of_one_memory() {
 #[test]
 fn a_volume_in_a_lock() {
     const ROUNDS: u64 = 50;
-    let made = make_volume(1, 16, "a=8192");
+    let made = make_volume(5, 17, "a=8192");
     let volume = RwLock::new(Volume::open(made.path()).unwrap());
     thread::scope(|scope| {
         for _ in 0..THREADS {
@@ -63,7 +63,7 @@ fn a_volume_in_a_lock() {
 
 #[test]
 fn memory_is_opened_once() {
-    let volume = Volume::open(make_volume(1, 16, "a=8192 b=8192").path()).unwrap();
+    let volume = Volume::open(make_volume(5, 17, "a=8192 b=8192").path()).unwrap();
     let places: Vec<_> = thread::scope(|scope| {
         let threads = [(); THREADS].map(|()| {
             scope
@@ -120,7 +120,7 @@ fn read_committed(volume: &Volume, file: &File, bytes: &mut [u8]) {
 
 #[test]
 fn words_are_stored_to_while_others_commit() {
-    let made = make_volume(1, 32, "a=98304");
+    let made = make_volume(5, 33, "a=98304");
     let volume = Volume::open(made.path()).unwrap();
     let (words, stopped) = (volume.words("a").unwrap(), &AtomicBool::new(false));
     let copy = OpenOptions::new().read(true).write(true).create_new(true).open(made.beside("copy.img")).unwrap();
@@ -147,7 +147,7 @@ fn words_are_stored_to_while_others_commit() {
 #[test]
 fn additions_to_one_word() {
     const ADDITIONS: u64 = 20000;
-    let made = make_volume(1, 16, "a=8192");
+    let made = make_volume(5, 17, "a=8192");
     let volume = Volume::open(made.path()).unwrap();
     let words: &[AtomicU64] = volume.words("a").unwrap();
     thread::scope(|scope| {
@@ -173,7 +173,7 @@ fn a_volume_goes_to_another_thread() {
     fn is_sent_and_shared<T: Send + Sync + 'static>() {}
     is_sent_and_shared::<Volume>();
     is_sent_and_shared::<famsync::Error>();
-    let made = make_volume(1, 16, "a=8192");
+    let made = make_volume(5, 17, "a=8192");
     let mut volume = Volume::open(made.path()).unwrap();
     volume.memory_mut("a").unwrap()[0] = 1;
     let volume = thread::spawn(move || volume.commit().map(|_| volume)).join().unwrap().unwrap();
@@ -185,7 +185,7 @@ fn a_volume_goes_to_another_thread() {
 #[test]
 fn groups_are_committed_whole() {
     const WORDS: usize = 4096;
-    let made = make_volume(4, 32, "a=32768");
+    let made = make_volume(5, 32, "a=32768");
     let volume = Volume::open(made.path()).unwrap();
     let (words, stopped) = (volume.words("a").unwrap(), &AtomicBool::new(false));
     thread::scope(|scope| {
@@ -218,7 +218,7 @@ fn groups_are_committed_whole() {
 
 #[test]
 fn a_thread_with_a_group_cant_commit() {
-    let made = make_volume(4, 32, "a=32768");
+    let made = make_volume(5, 32, "a=32768");
     let volume = Volume::open(made.path()).unwrap();
     let words = volume.words("a").unwrap();
     let group = volume.group().unwrap();
@@ -238,7 +238,7 @@ fn a_thread_with_a_group_cant_commit() {
 
 #[test]
 fn a_group_that_is_leaked() {
-    let made = make_volume(4, 32, "a=32768");
+    let made = make_volume(5, 32, "a=32768");
     let mut volume = Volume::open(made.path()).unwrap();
     thread::scope(|scope| {
         scope.spawn(|| {

@@ -71,7 +71,7 @@ fn found(path: &std::path::Path) -> (u8, u8, u8) {
 
 #[test]
 fn memory_is_closed_after_a_part_was_taken() {
-    let made = make_volume(4, PAGES + 1, &format!("a={LENGTH} b=5000"));
+    let made = make_volume(5, PAGES + 1, &format!("a={LENGTH} b=5000"));
     let open = || Options::new().foreground(true).open(made.path()).unwrap();
 
     let mut volume = open();

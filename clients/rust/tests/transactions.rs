@@ -11,7 +11,7 @@ use std::path::Path;
 use volumes::{make_volume, Made};
 
 fn make() -> (Made, Volume) {
-    let made = make_volume(4, 16, "a=8192 b=8192");
+    let made = make_volume(5, 16, "a=8192 b=8192");
     let volume = Volume::open(made.path()).unwrap();
     (made, volume)
 }
@@ -101,7 +101,7 @@ fn a_volume_in_the_place_of_another_one() {
 /// A panic, and then the volume can't be read for a while, so that the rollback fails.
 #[test]
 fn a_rollback_that_fails() {
-    let made = make_volume(1, 8, "a=32768 b=32768");
+    let made = make_volume(5, 9, "a=32768 b=32768");
     let mut volume = Options::new().foreground(true).open(made.path()).unwrap();
     let file = OpenOptions::new().read(true).write(true).open(made.path()).unwrap();
     let whole = fs::read(made.path()).unwrap();

@@ -76,7 +76,7 @@ static void copy(sqlite3 *to, sqlite3 *from)
 static void takes_a_database_in_wal_mode(const char *page_size)
 {
     sqlite3 *from;
-    begin(1, 200);
+    begin(FIRST_LAYOUT, 200);
     from = plain_with_wal(page_size);
     must(database, "CREATE TABLE old (n); INSERT INTO old VALUES (1)");
     copy(database, from);
@@ -96,7 +96,7 @@ static void refuses_a_large_restore(void)
 {
     sqlite3 *from;
     sqlite3_backup *backup;
-    begin(1, 30);
+    begin(FIRST_LAYOUT, 30);
     must(database, "CREATE TABLE old (n); INSERT INTO old VALUES (1)");
     from = plain_with_wal("4096");
     backup = sqlite3_backup_init(database, "main", from, "main");
@@ -113,7 +113,7 @@ static void refuses_a_large_restore(void)
 static void opens_what_says_wal(void)
 {
     famsync *handle;
-    begin(2, 200);
+    begin(FIRST_LAYOUT, 200);
     must(database, rows);
     end();
     WANT_CODE(famsync_open(volume, NULL, &handle), FAMSYNC_OK);
@@ -131,7 +131,7 @@ static void opens_what_says_wal(void)
 static void goes_into_a_plain_file(void)
 {
     sqlite3 *to;
-    begin(3, 200);
+    begin(FIRST_LAYOUT, 200);
     must(database, rows);
     WANT(sqlite3_open(plain, &to) == SQLITE_OK);
     copy(to, database);
@@ -150,7 +150,7 @@ static bool is_there(const char *suffix)
 static void leaves_plain_files_to_the_default(void)
 {
     sqlite3 *other;
-    begin(1, 200);
+    begin(FIRST_LAYOUT, 200);
     must(database, rows);
     must_with(database, "VACUUM INTO '%s'", plain);
     WANT(sqlite3_open(plain, &other) == SQLITE_OK && has_rows(other, "40") && sqlite3_close(other) == SQLITE_OK);
@@ -177,7 +177,7 @@ static void rolls_a_plain_file_back(void)
     sqlite3 *other;
     int status;
     pid_t child;
-    begin(1, 200);
+    begin(FIRST_LAYOUT, 200);
     must(database, rows);
     must_with(database, "VACUUM INTO '%s'", plain);
     end();
@@ -215,7 +215,7 @@ static void finds_volumes(void)
 {
     sqlite3 *opened;
     char saved[100], command[300];
-    begin(1, 200);
+    begin(FIRST_LAYOUT, 200);
     must(database, rows);
     snprintf(saved, sizeof saved, "%s/saved.img", folder);
     end();
@@ -265,7 +265,7 @@ static void says_why(const char *extension)
 {
     sqlite3 *in, *none;
     char missing[200];
-    begin(1, 200);
+    begin(FIRST_LAYOUT, 200);
     WANT(sqlite3_open(":memory:", &in) == SQLITE_OK && sqlite3_enable_load_extension(in, 1) == SQLITE_OK);
     WANT(sqlite3_load_extension(in, extension, NULL, NULL) == SQLITE_OK);
     WANT(answers(in, "SELECT famsync_error()", "NULL"));
@@ -294,7 +294,7 @@ static void says_why(const char *extension)
 static void says_what_is_full(const char *extension, const char *mode)
 {
     sqlite3 *in;
-    begin(4, 30);
+    begin(FIRST_LAYOUT, 30);
     WANT(sqlite3_open(":memory:", &in) == SQLITE_OK && sqlite3_enable_load_extension(in, 1) == SQLITE_OK);
     WANT(sqlite3_load_extension(in, extension, NULL, NULL) == SQLITE_OK);
     must_with(database, "PRAGMA journal_mode=%s", mode);
@@ -307,7 +307,7 @@ static void says_what_is_full(const char *extension, const char *mode)
     WANT(run(database, "COMMIT") == SQLITE_FULL);
     want_said(in, "v.img\": a transaction can change at most 28 pages", 0);
     end();
-    make_volume_of(2, 30, "db=40960");
+    make_volume_of(FIRST_LAYOUT, 30, "db=40960");
     WANT(open_database(path, &database) == SQLITE_OK);
     must_with(database, "PRAGMA journal_mode=%s", mode);
     WANT(run(database, "CREATE TABLE t AS SELECT zeroblob(50000)") == SQLITE_FULL);
@@ -325,7 +325,7 @@ static void keeps_errno(void)
     struct rlimit limit = {4096, 4096};
     sqlite3_vfs *vfs = sqlite3_vfs_find("famsync");
     char said[300];
-    begin(1, 200);
+    begin(FIRST_LAYOUT, 200);
     must(database, rows);
     end();
     child = fork();

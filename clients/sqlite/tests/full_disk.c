@@ -117,7 +117,7 @@ static void goes_on_with(unsigned number)
 {
     snprintf(settings, sizeof settings, "PRAGMA journal_mode=%s; PRAGMA locking_mode=%s; PRAGMA cache_size=%s",
              journals[number / 4], lockings[number % 2], caches[number / 2 % 2]);
-    goes_on(1 + number % LAYOUTS);
+    goes_on(FIRST_LAYOUT + number % (LAYOUTS - FIRST_LAYOUT + 1));
 }
 
 int main(int count, char **words)

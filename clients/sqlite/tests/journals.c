@@ -207,7 +207,7 @@ static void remove_file(const char *suffix)
 static void leaves_files_alone(const char *mode)
 {
     sqlite3 *database;
-    make_databases(1, mode);
+    make_databases(FIRST_LAYOUT, mode);
     leave_file("-journal");
     leave_file("-wal");
     database = opened_database("one", mode);
@@ -243,7 +243,7 @@ int main(int count, char **words)
     WANT(count == 2);
     load_vfs(words[1]);
     for (size_t i = 0; i < sizeof modes / sizeof modes[0]; i++) {
-        for (unsigned layout = 1; layout <= LAYOUTS; layout++) {
+        for (unsigned layout = FIRST_LAYOUT; layout <= LAYOUTS; layout++) {
             survives_a_kill(layout, modes[i]);
             rolls_back(layout, modes[i]);
             rolls_back_two_volumes(layout, modes[i]);

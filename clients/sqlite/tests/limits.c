@@ -56,7 +56,7 @@ static void want_refused(const char *refused, int code)
     WANT_CODE(famsync_close(handle), FAMSYNC_OK);
 }
 
-/* Writes over the beginning of the file `db`, the volume's only one, in layout 1. */
+/* Writes over the beginning of the file `db`, the volume's only one. */
 static void spoil(off_t at, const void *bytes, size_t count)
 {
     int file = open(volume, O_WRONLY);
@@ -66,8 +66,8 @@ static void spoil(off_t at, const void *bytes, size_t count)
 static void refuses_volumes(void)
 {
     char missing[220], mark[100];
-    off_t home = (3 + SLOTS) * 4096;
-    fresh(1, SLOTS, "db=40960");
+    off_t home = (off_t)(first_home(SLOTS) + 1) * 4096;
+    fresh(FIRST_LAYOUT, SLOTS, "db=40960");
     snprintf(missing, sizeof missing, "file:%s/none?vfs=famsync", folder);
     want_refused(missing, SQLITE_CANTOPEN);
     snprintf(missing, sizeof missing, "file:%s?vfs=famsync&file=none", volume);
@@ -80,11 +80,11 @@ static void refuses_volumes(void)
     want_refused(path, SQLITE_CORRUPT);
     spoil(0, "FAMSYNC9", 8);
     want_refused(path, SQLITE_NOTADB);
-    fresh(1, SLOTS, "db=8191");
+    fresh(FIRST_LAYOUT, SLOTS, "db=8191");
     want_refused(path, SQLITE_CANTOPEN);
-    fresh(1, 1, "db=40960");
+    fresh(FIRST_LAYOUT, 1, "db=40960");
     want_refused(path, SQLITE_CANTOPEN);
-    fresh(1, SLOTS, "db=40960");
+    fresh(FIRST_LAYOUT, SLOTS, "db=40960");
     snprintf(mark, sizeof mark, "%s.suspect", volume);
     WANT(close(open(mark, O_WRONLY | O_CREAT, 0600)) == 0);
     want_refused(path, SQLITE_IOERR);
@@ -94,7 +94,7 @@ static void refuses_what_is_in_use(void)
 {
     sqlite3 *other;
     famsync *handle;
-    begin(1);
+    begin(FIRST_LAYOUT);
     WANT(open_database(path, &other) == SQLITE_BUSY);
     WANT_CODE(famsync_open(volume, NULL, &handle), FAMSYNC_INUSE);
     must(database, "INSERT INTO row VALUES (1, 'it goes on')");
@@ -138,7 +138,7 @@ static bool have(const char *letter, int rows)
 /* A transaction may have a page less than a commit, of which one is the database's first. */
 static void refuses_large_transactions(unsigned layout, const char *cache)
 {
-    int most = SLOTS - 2 - has_lengths(layout);
+    int most = SLOTS - 3; /* less the lengths, and the database's first page and the one with the size */
     begin(layout);
     must(database, cache);
     for (int first = 1; first < 40; first += 10)
@@ -156,10 +156,10 @@ static void refuses_large_transactions(unsigned layout, const char *cache)
     end();
 }
 
-/* In layout 4 a transaction may change more pages than a commit of another layout has. */
+/* A transaction may change many pages. */
 static void takes_large_transactions(void)
 {
-    fresh(4, 1602, "db=8192000");
+    fresh(FIRST_LAYOUT, 1602, "db=8192000");
     WANT(open_database(path, &database) == SQLITE_OK);
     must(database, "PRAGMA journal_mode=MEMORY; CREATE TABLE row (id INTEGER PRIMARY KEY, bytes BLOB)");
     WANT(store_rows(1, 1500) == SQLITE_OK && have("x", 1500));
@@ -198,7 +198,7 @@ static void refuses_a_large_database(void)
 {
     int rows = 0;
     char count[20];
-    begin(2);
+    begin(FIRST_LAYOUT);
     while (store_rows(rows + 1, 1) == SQLITE_OK)
         rows++;
     snprintf(count, sizeof count, "%d", rows);
@@ -275,7 +275,7 @@ static void answers_pragmas(void)
         {"PRAGMA page_size", "4096"},
     };
     char count[20];
-    begin(3);
+    begin(FIRST_LAYOUT);
     for (size_t i = 0; i < sizeof taken / sizeof taken[0]; i++) {
         must(database, "INSERT INTO row VALUES (NULL, 'one more')");
         WANT(answers(database, taken[i][0], taken[i][1]));
@@ -290,7 +290,7 @@ static void answers_pragmas(void)
 static void names(const char *extension)
 {
     char first[200];
-    fresh(1, SLOTS, "db=40960 other=40960");
+    fresh(FIRST_LAYOUT, SLOTS, "db=40960 other=40960");
     load_vfs(extension);
     WANT(sqlite3_vfs_find("unix") && sqlite3_vfs_find("unix-none") && sqlite3_vfs_find("famsync"));
     snprintf(first, sizeof first, "file:%s?vfs=famsync&foreground=1", volume);
@@ -312,7 +312,7 @@ int main(int count, char **words)
     names(words[1]);
     refuses_volumes();
     refuses_what_is_in_use();
-    for (unsigned layout = 1; layout <= LAYOUTS; layout++) {
+    for (unsigned layout = FIRST_LAYOUT; layout <= LAYOUTS; layout++) {
         refuses_large_transactions(layout, "PRAGMA cache_size=2000");
         refuses_large_transactions(layout, "PRAGMA cache_size=5");
         deletes_a_large_table(layout);

@@ -142,7 +142,7 @@ static void works_with(unsigned number)
     snprintf(settings, sizeof settings,
              "PRAGMA journal_mode=%s; PRAGMA locking_mode=%s; PRAGMA synchronous=%s; PRAGMA cache_size=%u",
              journals[journal], locking, sync, cache);
-    works(LAYOUTS - number % 3);
+    works(LAYOUTS - number % (LAYOUTS - FIRST_LAYOUT + 1));
 }
 
 int main(int count, char **words)

@@ -55,7 +55,7 @@ static void waits(void)
     pid_t child;
     int ready[2];
     double began;
-    begin(1);
+    begin(FIRST_LAYOUT);
     began = seconds();
     WANT(open_with("&wait=200", &none) == SQLITE_BUSY && seconds() - began > 0.19);
     WANT(open_with("&wait=-1", &none) == SQLITE_BUSY);
@@ -122,7 +122,7 @@ int main(int count, char **words)
     WANT(count == 2);
     load_vfs(words[1]);
     waits();
-    for (unsigned layout = 1; layout <= LAYOUTS; layout++) {
+    for (unsigned layout = FIRST_LAYOUT; layout <= LAYOUTS; layout++) {
         reads_only(layout);
         reads_nothing_that_a_kill_left(layout);
     }

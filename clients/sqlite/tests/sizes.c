@@ -197,8 +197,8 @@ int main(int count, char **words)
     make_folder();
     snprintf(plain, sizeof plain, "%s/plain.db", folder);
     for (unsigned i = 0; i < sizeof shrinkings / sizeof shrinkings[0]; i++)
-        shrinks(1 + i % LAYOUTS, &shrinkings[i], modes[i / LAYOUTS % 2]);
-    for (unsigned layout = 1; layout <= LAYOUTS; layout++)
+        shrinks(FIRST_LAYOUT + i % 2, &shrinkings[i], modes[i / 2 % 2]);
+    for (unsigned layout = FIRST_LAYOUT; layout <= LAYOUTS; layout++)
         rolls_back_a_commit(layout, modes[layout % 2]);
     mends_an_earlier_size();
     printf("clients/sqlite: sizes: as they should be\n");

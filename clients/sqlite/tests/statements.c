@@ -190,7 +190,7 @@ static void one_database(void)
     char text[200];
     const char *size = ONE_OF(sizes);
     snprintf(text, sizeof text, "other=5000 db=%u", (100 + below(200)) * 4096);
-    make_volume_of(1 + below(LAYOUTS), (size[0] == '6' ? 150 : 12) + below(40), text);
+    make_volume_of(FIRST_LAYOUT + below(LAYOUTS - FIRST_LAYOUT + 1), (size[0] == '6' ? 150 : 12) + below(40), text);
     snprintf(path, sizeof path, "file:%s?vfs=famsync&file=db&foreground=%u", volume, below(2));
     WANT(open_database(":memory:", &mirror) == SQLITE_OK);
     reopen();

@@ -3,8 +3,8 @@
  * pages, each with PRAGMA synchronous=FULL. The ways take turns, each turn begins with another one, and of the turns of
  * a way the one in the middle counts.
  *
- *   times PAGES ROW TURNS LAYOUT     a turn has ROW transactions, one right after another; prints for each way the
- *                                    microseconds of a transaction; LAYOUT is the last layout of volumes, 1 to 6
+ *   times PAGES ROW TURNS     a turn has ROW transactions, one right after another; prints for each way the
+ *                             microseconds of a transaction
  *
  * EXTENSION in the environment is loaded before. The databases are made in the folder from which it is called, and are
  * looked at in the end.
@@ -14,12 +14,12 @@
 #include <time.h>
 
 #define ACCOUNTS 60
-#define MOST (sizeof ways / sizeof ways[0])
+#define RECORDS 16367 /* in a log of 64 MB */
+#define WAYS (sizeof ways / sizeof ways[0])
 
 struct way {
     const char *name, *path, *journal;
     unsigned layout;    /* of its volume; or 0 */
-    unsigned slots;     /* of its journal, or the blocks of its log */
     const char *volume; /* whose write-out is waited for between turns; or a null pointer */
     sqlite3 *database;
     sqlite3_stmt *update;
@@ -28,12 +28,11 @@ struct way {
 };
 
 static struct way ways[] = {
-    {"famsync", "file:times.vol?vfs=famsync", "MEMORY", .layout = 1, .slots = 1020, .volume = "times.vol"},
-    {"foreground", "file:foreground.vol?vfs=famsync&foreground=1", "MEMORY", .layout = 1, .slots = 1020},
+    {"famsync", "file:times.vol?vfs=famsync", "MEMORY", .layout = 5, .volume = "times.vol"},
+    {"foreground", "file:foreground.vol?vfs=famsync&foreground=1", "MEMORY", .layout = 5},
     {.name = "wal", .path = "wal.db", .journal = "WAL"},
     {.name = "delete", .path = "delete.db", .journal = "DELETE"},
-    {"log", "file:log.vol?vfs=famsync", "MEMORY", .layout = 5, .slots = 16384},
-    {"digest", "file:digest.vol?vfs=famsync", "MEMORY", .layout = 6, .slots = 16384},
+    {"digest", "file:digest.vol?vfs=famsync", "MEMORY", .layout = 6},
 };
 
 static void begin(struct way *way, int turns)
@@ -43,7 +42,7 @@ static void begin(struct way *way, int turns)
     if (way->layout > 0) {
         strcpy(folder, ".");
         sscanf(way->path, "file:%79[^?]", volume);
-        make_volume_of(way->layout, way->slots, "db=1048576");
+        make_volume_of(way->layout, RECORDS, "db=1048576");
     }
     WANT(open_database(way->path, &way->database) == SQLITE_OK);
     snprintf(text, sizeof text, "PRAGMA synchronous=FULL; PRAGMA journal_mode=%s", way->journal);
@@ -120,24 +119,21 @@ static void end(struct way *way, int pages, int turns)
 
 int main(int count, char **words)
 {
-    WANT(count == 5 && getenv("EXTENSION") != NULL);
+    WANT(count == 4 && getenv("EXTENSION") != NULL);
     int pages = atoi(words[1]), row = atoi(words[2]), turns = atoi(words[3]);
     WANT(pages > 0 && pages <= ACCOUNTS && row > 0 && turns > 0);
-    size_t tried = 0;
-    while (tried < MOST && ways[tried].layout <= (unsigned)atoi(words[4]))
-        tried++;
     load_vfs(getenv("EXTENSION"));
-    for (size_t i = 0; i < tried; i++)
+    for (size_t i = 0; i < WAYS; i++)
         begin(&ways[i], turns);
     /* one turn comes before, and isn't counted */
     for (int turn = -1; turn < turns; turn++)
-        for (size_t i = 0; i < tried; i++) {
-            struct way *way = &ways[(i + (size_t)(turn + 1)) % tried];
+        for (size_t i = 0; i < WAYS; i++) {
+            struct way *way = &ways[(i + (size_t)(turn + 1)) % WAYS];
             double time = one_turn(way, pages, row);
             if (turn >= 0)
                 way->turns[turn] = time;
         }
-    for (size_t i = 0; i < tried; i++)
+    for (size_t i = 0; i < WAYS; i++)
         end(&ways[i], pages, turns);
     return 0;
 }

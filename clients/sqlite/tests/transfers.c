@@ -3,7 +3,7 @@
  * its own; a transfer moves money between 50 of them and adds a row to a log, in one transaction. The sum of all
  * accounts stays 0.
  *
- *   transfers format VOLUME SLOTS FILE=BYTES [LAYOUT] a volume, of layout 1 where it isn't said
+ *   transfers format VOLUME RECORDS FILE=BYTES [LAYOUT] a volume, of layout 5 where it isn't said
  *   transfers make DATABASE JOURNAL ACCOUNTS          prints nothing
  *   transfers run DATABASE JOURNAL CACHE COUNT        prints `acknowledged N` after each, or `failed CODE`, and the
  *                                                     microseconds of one
@@ -161,11 +161,11 @@ static void large(const char *pages)
     check();
 }
 
-static void format(const char *path, const char *slots, const char *files, const char *layout)
+static void format(const char *path, const char *records, const char *files, const char *layout)
 {
     strcpy(folder, ".");
     snprintf(volume, sizeof volume, "%s", path);
-    make_volume_of((unsigned)atoi(layout), (unsigned)atoi(slots), files);
+    make_volume_of((unsigned)atoi(layout), (unsigned)atoi(records), files);
 }
 
 int main(int count, char **words)
@@ -173,7 +173,7 @@ int main(int count, char **words)
     const char *what = count > 2 ? words[1] : "";
     int failed = 0;
     if (strcmp(what, "format") == 0 && (count == 5 || count == 6)) {
-        format(words[2], words[3], words[4], count == 6 ? words[5] : "1");
+        format(words[2], words[3], words[4], count == 6 ? words[5] : "5");
     } else if (strcmp(what, "make") == 0 && count == 5) {
         begin_with(words[2], words[3], NULL);
         make(atoi(words[4]));

@@ -1,9 +1,9 @@
 /*
  * A session whose system calls `tests/faults/power_cut` records, and one that says what a volume contains.
  *
- *   session VOLUME make LAYOUT SLOTS FILES    makes a volume
+ *   session VOLUME make LAYOUT RECORDS FILES  makes a volume
  *   session VOLUME work SEED COMMITS MOST     commits at random: each commit stores to at most MOST pages, in plain
- *                                             memory or by famsync_write, and from layout 3 on some set a length
+ *                                             memory or by famsync_write, and some set a length
  *   session VOLUME find                       reads paths of volumes, a line each, and prints what each one contains
  *
  * What a volume contains is printed as a digest of the lengths and the bytes of all files. `work` computes it from a
@@ -209,7 +209,7 @@ static void one_round(famsync *handle, struct model *model, struct model *commit
         WANT_CODE(famsync_memory_close(memory), FAMSYNC_OK);
 }
 
-static void work(uint64_t commits, uint64_t most, const uint64_t *capacities, bool resizes)
+static void work(uint64_t commits, uint64_t most, const uint64_t *capacities)
 {
     struct famsync_options options = {.foreground = (int)below(2)};
     famsync *handle = opened_with(options);
@@ -220,7 +220,7 @@ static void work(uint64_t commits, uint64_t most, const uint64_t *capacities, bo
     }
     WANT(commit(handle, &model, 0, false));
     for (uint64_t number = 1; number <= commits; number++) {
-        if (resizes && below(3) == 0)
+        if (below(3) == 0)
             set_length(handle, &model, (unsigned)below(model.count));
         one_round(handle, &model, &committed, number, most);
         if (below(8) == 0)
@@ -263,7 +263,7 @@ int main(int count, char **words)
             capacities[i - 6] = strtoull(words[i], NULL, 10);
         state = strtoull(words[3], NULL, 10);
         snprintf(volume, sizeof volume, "%s", words[1]);
-        work(strtoull(words[4], NULL, 10), strtoull(words[5], NULL, 10), capacities, getenv("RESIZES") != NULL);
+        work(strtoull(words[4], NULL, 10), strtoull(words[5], NULL, 10), capacities);
         return 0;
     }
     char line[300];

@@ -33,37 +33,24 @@ fn put_number(bytes: &mut [u8], number: u64) {
 #[allow(dead_code)]
 pub const KEY: u64 = 0x0123456789abcdef;
 
-/// How many blocks a log has in which a commit has at most so many records.
-pub fn log_blocks(slots: u64) -> u64 {
-    4.max((32 + 4 * slots + 4095) / 4096 + slots + 1)
-}
-
-/// The layouts with a log, if the library's core has logs; the core of plain code has none.
+/// The layouts of volumes.
 #[allow(dead_code)]
-pub fn layouts_with_log() -> std::ops::Range<u8> {
-    let has_logs = famsync::Volume::open(make_volume(5, 20, "a=1").path()).is_ok();
-    5..if has_logs { 7 } else { 5 }
+pub const LAYOUTS: std::ops::RangeInclusive<u8> = 5..=6;
+
+/// How many blocks a log has in which a commit has at most so many records.
+pub fn log_blocks(records: u64) -> u64 {
+    4.max((32 + 4 * records + 4095) / 4096 + records + 1)
 }
 
-/// The first block after the journals, each of which has a gate, its descriptor and its slots; or after the log.
-fn first_home(layout: u8, slots: u64) -> u64 {
-    if layout >= 5 {
-        return 4 + log_blocks(slots);
-    }
-    let journals = [1, 2, 2, 4][usize::from(layout) - 1];
-    1 + journals * (1 + (16 + 4 * slots + 4095) / 4096 + slots)
-}
-
-/// Makes a volume of a layout with so many slots and these files: `NAME=LENGTH` or `NAME=LENGTH/CAPACITY`, with blanks
-/// between them.
-pub fn make_volume(layout: u8, slots: u64, files: &str) -> Made {
+/// Makes a volume of a layout with these files: `NAME=LENGTH` or `NAME=LENGTH/CAPACITY`, with blanks between them. A
+/// commit has at most one page less than so many records, as one is for the lengths.
+pub fn make_volume(layout: u8, records: u64, files: &str) -> Made {
     static COUNT: std::sync::atomic::AtomicU32 = std::sync::atomic::AtomicU32::new(0);
     let count = COUNT.fetch_add(1, std::sync::atomic::Ordering::Relaxed);
     let folder = std::env::temp_dir().join(format!("famsync-rust-{}-{count}", std::process::id()));
-    let (has_lengths, has_log) = (layout >= 3, layout >= 5);
-    let lengths_at = first_home(layout, slots);
-    let mut next = lengths_at + u64::from(has_lengths);
-    let behind = if has_log { log_blocks(slots) + 1 } else { 0 };
+    let lengths_at = 4 + log_blocks(records);
+    let mut next = lengths_at + 1;
+    let behind = log_blocks(records) + 1;
     let (mut head, mut lengths) = (vec![0; 4096], vec![0; 4096]);
     for (number, file) in files.split_whitespace().enumerate() {
         let (name, length) = file.split_once('=').unwrap();
@@ -80,21 +67,17 @@ pub fn make_volume(layout: u8, slots: u64, files: &str) -> Made {
     }
     head[..8].copy_from_slice(format!("FAMSYNC{layout}").as_bytes());
     put_number(&mut head[8..12], files.split_whitespace().count() as u64);
-    put_number(&mut head[12..16], if has_log { log_blocks(slots) } else { slots });
+    put_number(&mut head[12..16], log_blocks(records));
     put_number(&mut head[16..20], next);
-    put_number(&mut head[20..24], if has_log { 4 } else { 0 });
+    put_number(&mut head[20..24], 4);
     put_number(&mut head[24..32], if layout == 6 { KEY } else { 0 });
     std::fs::create_dir(&folder).unwrap();
     let made = Made { folder };
     std::fs::write(made.path(), head).unwrap();
     let file = std::fs::OpenOptions::new().write(true).open(made.path()).unwrap();
     file.set_len(next * 4096).unwrap();
-    if has_lengths {
-        std::os::unix::fs::FileExt::write_all_at(&file, &lengths, lengths_at * 4096).unwrap();
-    }
-    if has_log {
-        let start = [1u64.to_be_bytes(), 1u64.to_be_bytes()].concat();
-        std::os::unix::fs::FileExt::write_all_at(&file, &start, 2 * 4096).unwrap();
-    }
+    std::os::unix::fs::FileExt::write_all_at(&file, &lengths, lengths_at * 4096).unwrap();
+    let start = [1u64.to_be_bytes(), 1u64.to_be_bytes()].concat();
+    std::os::unix::fs::FileExt::write_all_at(&file, &start, 2 * 4096).unwrap();
     made
 }
