@@ -19,7 +19,8 @@ ssize_t pwritev(int file, const struct iovec *range, int count, off_t offset)
         atomic_fetch_add(&failed, 1);
         return -1;
     }
-    atomic_fetch_add(&waiting, 1);
+    if (spared && atomic_load(&held))
+        atomic_fetch_add(&waiting, 1);
     while (spared && atomic_load(&held))
         usleep(1000);
     return syscall(SYS_pwritev, file, range, count, offset, 0);
