@@ -88,6 +88,8 @@ enum famsync_code {
     FAMSYNC_NOTAVOLUME = -16, /* the file doesn't begin like a volume */
     FAMSYNC_DAMAGED = -17,    /* the file begins like a volume, but its bytes or its length break
                                  the rules of the format */
+    FAMSYNC_LAYOUT = -47,     /* The volume has one of layouts 1 to 4. Copy it with the command
+                                 `famsync migrate --layout 5 OLD NEW`. */
     FAMSYNC_SHAPE = -18,      /* the option `frames` is above the volume's limit (see
                                  famsync_format) */
 

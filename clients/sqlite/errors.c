@@ -48,6 +48,8 @@ int code_for_open(int code)
         return SQLITE_NOTADB;
     case FAMSYNC_DAMAGED:
         return SQLITE_CORRUPT;
+    case FAMSYNC_LAYOUT:
+        return SQLITE_CANTOPEN;
     case FAMSYNC_DEVICE:
         return SQLITE_IOERR;
     default:

@@ -68,6 +68,13 @@ static uint64_t number_in(const unsigned char *bytes, unsigned count)
     return number;
 }
 
+/* The layout with journals that a first block has; otherwise 0. The library opens none of them. */
+static unsigned layout_with_journals(const unsigned char *head)
+{
+    bool has_journals = memcmp(head, "FAMSYNC", 7) == 0 && '1' <= head[7] && head[7] < '0' + FIRST_LAYOUT;
+    return has_journals ? head[7] - (unsigned)'0' : 0;
+}
+
 /* What the super block says: how many blocks the core is to know of, which are no more than the file has. A file that
    doesn't begin as a volume is judged by its first block. What the core doesn't answer later is noted, and is right
    once the core has opened the volume. */
@@ -78,6 +85,9 @@ static int read_super(famsync *handle)
     int code = blocks == 0 ? FAMSYNC_NOTAVOLUME : read_blocks(handle, 0, 1, handle->read);
     if (code != FAMSYNC_OK)
         return code;
+    if (layout_with_journals(head) > 0)
+        return explain(FAMSYNC_LAYOUT, "this volume has layout %u; copy it with `famsync migrate --layout 5 OLD NEW`",
+                       layout_with_journals(head));
     handle->layout = head[7] - (unsigned)'0';
     handle->slots = (uint32_t)number_in(head + 12, 4);
     for (unsigned i = 0; i < MOST_FILES; i++)
@@ -225,16 +235,25 @@ int open_other_core(famsync *handle, famsync_core *other)
     return code;
 }
 
+static int read_first(famsync *handle)
+{
+    handle->read = malloc((size_t)MOST_READ * PAGE);
+    return handle->read ? read_super(handle) : FAMSYNC_NOMEMORY;
+}
+
 static int open_session(famsync *handle, const char *path, const struct famsync_options *options)
 {
     struct message message = {options->message, options->message_size};
     int code = open_volume_file(path, options, &handle->volume, &message);
     if (code != FAMSYNC_OK)
         return code;
-    handle->read = malloc((size_t)MOST_READ * PAGE);
-    code = handle->read ? read_super(handle) : FAMSYNC_NOMEMORY;
-    if (code == FAMSYNC_OK)
+    code = read_first(handle);
+    if (code == FAMSYNC_OK) {
+        code = judge_volume_file(&handle->volume, options->trust != 0, &message);
+        if (code != FAMSYNC_OK)
+            return code;
         code = open_core(handle, options);
+    }
     handle->resident = options->resident != 0;
     handle->fixed = options->fixed != 0;
     handle->is_tracked = options->tracking == FAMSYNC_TRACK_KERNEL && !options->readonly;

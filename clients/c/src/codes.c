@@ -22,6 +22,7 @@ static const struct {
     {FAMSYNC_REPLACED, "the volume's file was replaced while it was being opened"},
     {FAMSYNC_NOTAVOLUME, "the file isn't a volume"},
     {FAMSYNC_DAMAGED, "the volume is damaged"},
+    {FAMSYNC_LAYOUT, "the volume has one of layouts 1 to 4; copy it with `famsync migrate --layout 5 OLD NEW`"},
     {FAMSYNC_SHAPE, "the option `frames` is too large for this volume"},
     {FAMSYNC_NOFRAME, "too many pages for one commit were written, or added to a file"},
     {FAMSYNC_DEVICE, "a read, a write or a sync of the volume failed, or memory for it couldn't be allocated"},

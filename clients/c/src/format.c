@@ -21,7 +21,7 @@
 /* The first layouts with lengths, with commits that share syncs, and with a log; and the last one, which has a key. */
 #define FIRST_WITH_LENGTHS 3u
 #define FIRST_THAT_SHARES 4u
-#define FIRST_WITH_LOG 5u
+#define FIRST_WITH_LOG FIRST_LAYOUT
 #define LAST_LAYOUT 6u
 
 /* Where the super block has the layout's digit, and the key. */
@@ -152,8 +152,8 @@ static const char *judge_plan(struct made *made)
 {
     const struct famsync_plan *plan = &made->plan;
     const char *fault;
-    if (plan->layout < 1 || plan->layout > LAST_LAYOUT)
-        return "the layout must be 1 to 6";
+    if (plan->layout < FIRST_LAYOUT || plan->layout > LAST_LAYOUT)
+        return "the layout must be 5 or 6";
     if (plan->files < 1 || plan->files > MOST_FILES || !plan->file)
         return "a volume must have 1 to 64 files";
     made->lengths = plan->layout >= FIRST_WITH_LENGTHS;

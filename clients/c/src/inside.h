@@ -27,6 +27,8 @@
 /* The first block of a log. The blocks before it are the super block, the selector, and the two
    starts of the log. */
 #define FIRST_OF_LOG 4u
+/* The first layout with a log. Those before it have journals. */
+#define FIRST_LAYOUT 5u
 
 /* Begins the definition of a variable that each thread has. With glibc each thread has its memory
    from its beginning. In a library that was loaded by dlopen it would else be allocated at its
@@ -335,10 +337,13 @@ int sync_file(int file);
 int sync_folder(const struct volume *volume);
 /* Removes the suspect flag, if there is one. */
 int remove_flag(const struct volume *volume);
-/* Opens and locks the file of a volume, and checks its kind and its suspect flag. Syncs the file,
-   unless the session only reads. If the call fails, nothing stays open. */
+/* Opens and locks the file of a volume, and checks its kind. If the call fails, nothing stays
+   open. */
 int open_volume_file(const char *path, const struct famsync_options *options, struct volume *volume,
                      struct message *message);
+/* Checks the suspect flag. Syncs the file, unless the session only reads, and removes the flag if
+   the volume is trusted. */
+int judge_volume_file(const struct volume *volume, bool trust, struct message *message);
 void close_volume_file(struct volume *volume);
 /* Closes the descriptors in a forked process. The file stays locked. */
 void let_volume_go(struct volume *volume);

@@ -339,8 +339,7 @@ static int judge_flag(const struct volume *volume, bool trust, struct message *m
     return volume->readonly ? FAMSYNC_NEEDSOPENING : FAMSYNC_SUSPECT;
 }
 
-/* One that is trusted isn't flagged any more. */
-static int judge_opened(struct volume *volume, bool trust, struct message *message)
+int judge_volume_file(const struct volume *volume, bool trust, struct message *message)
 {
     int code = judge_flag(volume, trust, message);
     if (code != FAMSYNC_OK || volume->readonly)
@@ -367,12 +366,8 @@ int open_volume_file(const char *path, const struct famsync_options *options, st
     error = errno;
     if (code != FAMSYNC_OK) {
         say_why(message, path, code);
-    } else {
-        code = judge_opened(volume, options->trust != 0, message);
-        error = errno;
-    }
-    if (code != FAMSYNC_OK)
         close_volume_file(volume);
+    }
     errno = error;
     return code;
 }

@@ -229,8 +229,10 @@ static void refusals(void)
         plan = plan_of(layout, 20, 2);
         is_refused(&plan, "same name");
     }
-    plan = plan_of(7, 20, 1);
-    is_refused(&plan, "layout must be");
+    for (unsigned layout = 1; layout <= LAYOUTS + 1; layout += layout == FIRST_LAYOUT - 1 ? 3 : 1) {
+        plan = plan_of(layout, 20, 1);
+        is_refused(&plan, "layout must be 5 or 6");
+    }
     plan = plan_of(FIRST_LAYOUT, 20, 1);
     plan.size = offsetof(struct famsync_plan, log); /* as an older program has it, whose bytes behind are others */
     plan.log = 5;

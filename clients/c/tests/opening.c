@@ -133,6 +133,52 @@ static void spoilt_volumes(void)
     WANT_CODE(code_of(volume), FAMSYNC_DAMAGED);
 }
 
+/* A file that begins as a volume with journals, and zeros. */
+static void make_journals(unsigned layout)
+{
+    char magic[20];
+    int file = open(volume, O_WRONLY | O_CREAT | O_TRUNC | O_CLOEXEC, 0600);
+    WANT(file >= 0 && ftruncate(file, 40960) == 0 && close(file) == 0);
+    snprintf(magic, sizeof magic, "FAMSYNC%u", layout);
+    set_bytes(0, magic, 8);
+}
+
+/* Whether it is refused by its own code, and both texts have the layout and the command that copies the volume. */
+static void want_copied(unsigned layout, struct famsync_options options)
+{
+    char message[FAMSYNC_MESSAGE_SIZE] = "", wanted[200];
+    famsync *handle = (famsync *)1;
+    uint64_t sum = sum_of_volume();
+    snprintf(wanted, sizeof wanted, ": this volume has layout %u; copy it with `famsync migrate --layout 5 OLD NEW`",
+             layout);
+    options.message = message;
+    options.message_size = sizeof message;
+    WANT_CODE(famsync_open(volume, &options, &handle), FAMSYNC_LAYOUT);
+    WANT(handle == NULL && strstr(message, wanted) && strstr(famsync_error(NULL), wanted + 1));
+    WANT(strstr(message, volume) && sum_of_volume() == sum);
+}
+
+/* Volumes with journals, also with a suspect flag, which stays. */
+static void other_layouts(void)
+{
+    snprintf(flag, sizeof flag, "%s/v.img.suspect", folder);
+    for (unsigned layout = 0; layout < 10; layout++) {
+        make_journals(layout);
+        if (layout < 1 || layout >= FIRST_LAYOUT) {
+            WANT_CODE(code_of(volume), layout < 1 || layout > LAYOUTS ? FAMSYNC_NOTAVOLUME : FAMSYNC_DAMAGED);
+            continue;
+        }
+        want_copied(layout, (struct famsync_options){0});
+        want_copied(layout, (struct famsync_options){.readonly = 1});
+        int file = open(flag, O_WRONLY | O_CREAT | O_CLOEXEC, 0600);
+        WANT(file >= 0 && close(file) == 0);
+        want_copied(layout, (struct famsync_options){.trust = 1});
+        want_copied(layout, (struct famsync_options){.readonly = 1});
+        WANT(access(flag, F_OK) == 0 && unlink(flag) == 0);
+    }
+    make_volume(16, "a=65536");
+}
+
 /* A volume with a log of 20 blocks in which these bytes are other ones. */
 static int code_of_log(unsigned layout, off_t at, const char *bytes, size_t count)
 {
@@ -321,6 +367,7 @@ int main(void)
     arguments();
     other_files();
     spoilt_volumes();
+    other_layouts();
     spoilt_logs();
     other_lengths();
     other_names();

@@ -105,6 +105,12 @@ class Damaged(Error):
     code = -17
 
 
+class OldLayout(Error):
+    """The volume has one of layouts 1 to 4. Copy it with `famsync migrate --layout 5 OLD NEW`."""
+
+    code = -47
+
+
 class BadShape(Error):
     """`frames` is more than the number of pages that one commit of this volume can have."""
 

@@ -115,13 +115,24 @@ class Opening(InAFolder):
         self.make(16, "a=1")
         with open("v.img", "r+b") as file:
             file.seek(PAGE)
-            file.write(b"\xa7")  # an open gate, and no descriptor
+            file.write(b"\xa7")  # the other start, which is none
         self.refuses(famsync.Damaged)
         with open("v.img", "r+b") as file:
             file.write(b"FAMSYNC9")
         self.refuses(famsync.NotAVolume)
         os.truncate("v.img", 0)
         self.refuses(famsync.NotAVolume)
+
+
+    def test_layouts_with_journals(self):
+        for layout in (1, 2, 3, 4):
+            with open("v.img", "wb") as file:
+                file.write((b"FAMSYNC%d" % layout).ljust(3 * PAGE, b"\0"))
+            said = f"v.img.*layout {layout}; copy it with `famsync migrate --layout 5 OLD NEW`"
+            self.assertEqual(self.refuses(famsync.OldLayout, said=said).code, -47)
+            self.refuses(famsync.OldLayout, said=said, readonly=True)
+            with open("v.img", "rb") as file:
+                self.assertEqual(file.read(), (b"FAMSYNC%d" % layout).ljust(3 * PAGE, b"\0"))
 
 
 class InASession(InAFolder):

@@ -61,6 +61,8 @@ codes! {
     NotAVolume = -16,
     /// The file begins as a volume, but its bytes or its length break the format.
     Damaged = -17,
+    /// The volume has one of layouts 1 to 4. Copy it with `famsync migrate --layout 5 OLD NEW`.
+    Layout = -47,
     /// [`Options::frames`](crate::Options::frames) is more than a commit of this volume can have.
     Shape = -18,
     /// More pages were written, or added to a file, than one commit can have.

@@ -83,6 +83,22 @@ fn other_files() {
 }
 
 #[test]
+fn layouts_with_journals() {
+    let made = make_volume(5, 17, "a=8192");
+    for layout in 1..=4 {
+        let mut bytes = format!("FAMSYNC{layout}").into_bytes();
+        bytes.resize(12288, 0);
+        fs::write(made.path(), &bytes).unwrap();
+        let error = Volume::open(made.path()).unwrap_err();
+        assert_eq!(error.code(), Code::Layout);
+        let said = format!("this volume has layout {layout}; copy it with `famsync migrate --layout 5 OLD NEW`");
+        assert!(error.to_string().contains(&said), "{error}");
+        assert_eq!(code(Options::new().readonly(true).open(made.path())), Code::Layout);
+        assert!(fs::read(made.path()).unwrap() == bytes);
+    }
+}
+
+#[test]
 fn in_use() {
     let made = make_volume(5, 17, "a=8192");
     let volume = Volume::open(made.path()).unwrap();

@@ -63,6 +63,23 @@ static void spoil(off_t at, const void *bytes, size_t count)
     WANT(file >= 0 && pwrite(file, bytes, count, at) == (ssize_t)count && close(file) == 0);
 }
 
+/* Volumes with journals, which the library doesn't open. */
+static void refuses_other_layouts(void)
+{
+    sqlite3_vfs *vfs = sqlite3_vfs_find("famsync");
+    char magic[20], said[FAMSYNC_MESSAGE_SIZE];
+    fresh(FIRST_LAYOUT, SLOTS, "db=40960");
+    for (unsigned layout = 1; layout < FIRST_LAYOUT; layout++) {
+        snprintf(magic, sizeof magic, "FAMSYNC%u", layout);
+        spoil(0, magic, 8);
+        want_refused(path, SQLITE_CANTOPEN);
+        WANT(vfs->xGetLastError(vfs, sizeof said, said) == 0);
+        WANT(strstr(said, "copy it with `famsync migrate --layout 5 OLD NEW`"));
+        int file = open(volume, O_RDONLY);
+        WANT(file >= 0 && pread(file, said, 8, 0) == 8 && memcmp(said, magic, 8) == 0 && close(file) == 0);
+    }
+}
+
 static void refuses_volumes(void)
 {
     char missing[220], mark[100];
@@ -311,6 +328,7 @@ int main(int count, char **words)
     load_vfs(words[1]);
     names(words[1]);
     refuses_volumes();
+    refuses_other_layouts();
     refuses_what_is_in_use();
     for (unsigned layout = FIRST_LAYOUT; layout <= LAYOUTS; layout++) {
         refuses_large_transactions(layout, "PRAGMA cache_size=2000");
