@@ -9,3 +9,6 @@ pub mod Ended
 mod Contents
 pub mod Counted
 pub mod Public
+mod LogEnded
+mod Shown
+mod LogLeft

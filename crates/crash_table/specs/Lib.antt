@@ -4,3 +4,6 @@ pub mod Trials
 pub mod Marks
 pub mod Rows
 pub mod inside
+pub mod Twins
+pub mod Runs
+pub mod LogTrials

@@ -1,2 +1,3 @@
 -- Definitions that connect private code with the definitions in public contracts.
 pub mod Kept
+pub mod Shown

@@ -1,14 +1,13 @@
 // What a crash within each device call of a script leaves.
+use crate::json::{json_end, json_row};
+use crate::page::{begin_page, end_page, reply_on_page, row_on_page};
+use crate::printed::Printed;
+use crate::text::{text_end, text_reply, text_row};
 use command_line::{Form, Scripted};
-use command_parts::{Failure, NotBooted, read_script, refused_to_run, show_log};
-use crash_report::{
-    Printed, begin_page, end_page, json_end, json_row, reply_on_page, row_on_page, text_end,
-    text_reply, text_row,
-};
+use commands::{Failure, NotBooted, read_script, refused_to_run, show_log};
 use crash_states::{Call, CrashFault, LogPlaces, Places, Row, VolumePlaces};
-use crash_table::{CrashedRun, Rows, Trial};
+use crash_table::{CrashedRun, LogTrial, Rows, Trial, Twin};
 use device::{Device, MemDisk};
-use log_crash_table::{LogTrial, Twin};
 use log_volume::{LogSuper, read_log_super};
 use machine::{Reply, Shape};
 use page_entry::{PAGE, Refusal};

@@ -1,7 +1,10 @@
-//! `famsync`: makes volumes, runs scripts and programs on a machine that maps their files, and prints the files.
+//! The program `famsync`.
 #![tactic(auto)]
 
-use all_commands::perform;
+mod program;
+mod reporting;
+
+use crate::program::perform;
 use std::io::{BufWriter, ErrorKind, Stdout};
 use std::process::ExitCode;
 use std::{env, io};

@@ -7,8 +7,8 @@ use Rattle.log_codec.specs.Chain.{HasLog}
 use Rattle.log_volume.specs.Super.{log_of}
 use Rattle.log_recovery.specs.declared.found.FoundCommit.{FoundCommit}
 use Rattle.log_recovery.specs.Reading.{logged_of, chain_of}
-use Rattle.log_reading.specs.declared.volume.LoggedVolume.{LoggedVolume}
-use Rattle.log_reading.specs.Logged.{IsLoggedVolume, logged_files}
+use Rattle.volume_reading.specs.declared.logged.LoggedVolume.{LoggedVolume}
+use Rattle.volume_reading.specs.Logged.{IsLoggedVolume, logged_files}
 use Rattle.inspection.specs.LogHealth.{HoldsLog}
 
 module _ {Z : Type 0} where

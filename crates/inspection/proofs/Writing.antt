@@ -5,7 +5,7 @@ use Rattle.std.specs.List.{flat_map}
 use Rattle.std.specs.Io.KnownBytes.{Appends}
 use Rattle.std.proofs.lemmas.List.{take_more, flat_map_more, map_push, map_more}
 use Rattle.std.proofs.lemmas.Result.{on_ok_weaker}
-use Rattle.file_rows.proofs.Public.{appends_both}
+use Rattle.volume_reading.proofs.Public.{appends_both}
 use Rattle.serde_json.specs.Data.{Data}
 use Rattle.serde_json.specs.View.{view}
 use Rattle.serde_json.specs.declared.value.Value.{Value}

@@ -5,7 +5,7 @@ use Rattle.hex.specs.Hex.{encode_lower}
 use Rattle.serde_json.specs.Data.{Data, object, string, member, no_members}
 use Rattle.serde_json.specs.Written.{compact_text}
 use Rattle.volume_codec.specs.Files.{File}
-use Rattle.file_rows.specs.Rows.{files_listing}
+use Rattle.volume_reading.specs.Rows.{files_listing}
 use Rattle.inspection.specs.Json.{num}
 
 -- A value without spaces, then a line feed.

@@ -6,7 +6,7 @@ use Rattle.log_codec.specs.Log.{LogValue}
 use Rattle.log_codec.specs.Chain.{chain_blocks}
 use Rattle.log_volume.specs.Super.{LogSuperValue, table_of, log_of}
 use Rattle.log_recovery.specs.Reading.{chain_of}
-use Rattle.log_reading.specs.declared.volume.LoggedVolume.{LoggedVolume}
+use Rattle.volume_reading.specs.declared.logged.LoggedVolume.{LoggedVolume}
 use Rattle.inspection.specs.Text.{name_of}
 use Rattle.inspection.specs.Json.{num, list, file_members}
 use Rattle.inspection.specs.LogText.{log_layout, log_home_of}

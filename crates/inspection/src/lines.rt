@@ -5,17 +5,16 @@ ghost use Rattle.serde_json.specs.View.{view};
 ghost use Rattle.serde_json.specs.Written.{has_float};
 ghost use Rattle.volume_codec.specs.Files.{File};
 ghost use Rattle.recovery.specs.Reading.{IsOnlyRead};
-ghost use Rattle.file_rows.specs.Faults.{HasListed};
-ghost use Rattle.any_volume.specs.Volume.{RecoversToAny, RefusesAny, RisesFor};
+ghost use Rattle.volume_reading.specs.Faults.{HasListed};
+ghost use Rattle.volume_reading.specs.Volume.{RecoversToAny, RefusesAny, RisesFor};
 ghost use Rattle.inspection.specs.Lines.{json_line, head_data, head_json, row_data, row_json, files_json};
 
-use any_volume::list_any;
 use device::Device;
-use file_rows::{Form, ListFault, WriteFault};
 use page_entry::Refusal;
 use serde_json::{Value, json};
 use std::alloc::{AllocError, Allocator, Global};
 use std::io::Write;
+use volume_reading::{Form, ListFault, WriteFault, list_any};
 
 /// Writes a value that has no float, as a line.
 pub fn write_line<W: Write>(global: Global, value: &Value, out: &mut W) -> Result<(), WriteFault>

@@ -1,14 +1,14 @@
 // Whether a volume with a log is undamaged, and whether its log has commits.
 ghost use Rattle.std.specs.Prelude.{IfOk, IfErr};
 ghost use Rattle.log_recovery.specs.Reading.{ReadsAlone};
-ghost use Rattle.log_reading.specs.Logged.{RefusesLogReading};
+ghost use Rattle.volume_reading.specs.Logged.{RefusesLogReading};
 ghost use Rattle.inspection.specs.LogHealth.{IsLogHealth};
 
 use crate::health::Health;
 use device::Device;
-use log_reading::read_log_volume;
 use page_entry::Refusal;
 use std::alloc::Allocator;
+use volume_reading::read_log_volume;
 
 /// Returns the state of the volume with a log on a device. The device is only read.
 ///

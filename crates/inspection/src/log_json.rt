@@ -10,11 +10,11 @@ use crate::file::{capacity_of, name_of};
 use crate::json::file_object;
 use crate::log_text::{home_of, layout_of};
 use log_codec::LogGeometry;
-use log_reading::{LoggedVolume, used_blocks};
 use log_volume::LogSuper;
 use page_entry::PAGE;
 use serde_json::{Value, json};
 use std::alloc::{AllocError, Allocator, Global};
+use volume_reading::{LoggedVolume, used_blocks};
 
 /// Returns what is found of a volume with a log, as one object.
 pub fn log_found_value<A: Allocator + Copy>(

@@ -9,11 +9,11 @@ ghost use Rattle.inspection.specs.LogText.{log_layout, log_volume_text, log_volu
 use crate::file::{capacity_of, name_of};
 use crate::text::write_file_text;
 use log_codec::{LogGeometry, Sealing};
-use log_reading::{LoggedVolume, used_blocks};
 use log_volume::LogSuper;
 use page_entry::PAGE;
 use std::alloc::Allocator;
 use std::io;
+use volume_reading::{LoggedVolume, used_blocks};
 
 /// Returns the number of the layout that seals its commits in this way.
 pub fn layout_of(sealing: Sealing) -> u64

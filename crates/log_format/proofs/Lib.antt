@@ -6,3 +6,6 @@ mod Finished
 mod Made
 mod Crash
 pub mod Public
+mod Filled
+mod Begun
+mod Migrated

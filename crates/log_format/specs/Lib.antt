@@ -2,3 +2,4 @@ pub mod Asked
 pub mod Fresh
 pub mod Formatting
 pub mod inside
+pub mod Migration

@@ -1,2 +1,4 @@
+mod Absent
+mod Names
 mod DumpRows
 mod LogMagic

@@ -3,7 +3,7 @@ use Rattle.std.specs.Prelude.{ℕ, ◌-◌, ◌^◌, ◌/◌, ◌%◌, List, [],
 use Rattle.std.specs.List.{flat_map}
 use Rattle.std.specs.Fmt.{decimal, digits, digit_glyph, padded_integral, format_spec}
 use Rattle.volume_codec.specs.Files.{File}
-use Rattle.file_rows.specs.Rows.{files_listing}
+use Rattle.volume_reading.specs.Rows.{files_listing}
 
 -- a byte in two hexadecimal digits, after a space
 abbrev pub byte_text : ℕ → List ℕ

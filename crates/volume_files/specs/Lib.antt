@@ -1,3 +1,4 @@
+pub mod Export
 pub mod Dump
 pub mod Failures
 pub mod Layouts

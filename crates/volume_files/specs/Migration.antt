@@ -9,7 +9,7 @@ use Rattle.recovery.specs.Volume.{VolumeState}
 use Rattle.new_volume.specs.Formatting.{IsZero}
 use Rattle.log_volume.specs.Super.{LogSuperValue, log_of}
 use Rattle.log_format.specs.Asked.{IsLogAsked, RefusesLogFormat}
-use Rattle.log_migration.specs.Migration.{HasMigratedToLog}
+use Rattle.log_format.specs.Migration.{HasMigratedToLog}
 use Rattle.volume_files.specs.Layouts.{MayMigrate}
 use Rattle.volume_files.specs.declared.migrating.NewVolume.{NewVolume}
 use Rattle.volume_files.specs.declared.migrating.NewVolume.TheVariants.{Journals, Log}

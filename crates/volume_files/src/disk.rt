@@ -3,8 +3,8 @@ ghost use Rattle.std.specs.Prelude.{◌≡◌, List, IfErr, OnOk};
 ghost use Rattle.std.specs.Io.KnownBytes.{Appends};
 ghost use Rattle.volume_codec.specs.Files.{File as VolumeFile};
 ghost use Rattle.recovery.specs.Reading.{IsOnlyRead};
-ghost use Rattle.file_rows.specs.Faults.{IsOfDevice};
-ghost use Rattle.any_volume.specs.Volume.{RecoversToAny, RefusesAny};
+ghost use Rattle.volume_reading.specs.Faults.{IsOfDevice};
+ghost use Rattle.volume_reading.specs.Volume.{RecoversToAny, RefusesAny};
 ghost use Rattle.volume_files.specs.Dump.{dump_text};
 ghost use Rattle.volume_files.specs.Failures.{IsOfVolume};
 
@@ -16,13 +16,12 @@ use crate::suspect_flag::SuspectFlag;
 use crate::sync_note::SyncNote;
 use crate::volume_file::{Access, off_streams, open_locked};
 use crate::watched_file::WatchedFile;
-use any_volume::list_any;
 use device::{Device, FileDisk, OverlayDisk};
-use file_rows::{ListFault, WriteFault};
 use page_entry::Refusal;
 use std::alloc::{AllocError, Allocator};
 use std::fs::{File, Files};
 use std::io::{Read, Write};
+use volume_reading::{ListFault, WriteFault, list_any};
 
 /// The disk over the file of a volume.
 pub type VolumeDisk<'a, R> = FileDisk<WatchedFile<File, Marker<'a, R>>>;

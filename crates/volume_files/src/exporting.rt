@@ -1,18 +1,18 @@
 // Copies a file out of a volume: to a new file, which takes the requested name once it is whole.
 ghost use Rattle.recovery.specs.Reading.{IsOnlyRead};
 
+use crate::copying::{CopyFault, copy_file};
 use crate::disk::{not_read, open_disk, unreadable};
 use crate::failure::FileFailure;
 use crate::sync_note::SyncNote;
 use crate::target::{Target, new_file, take_after};
 use crate::volume_file::{Access, apart, found_at, off_streams, other_kind, place};
 use device::Device;
-use file_rows::{ListFault, WriteFault};
 use new_volume::WriteListener;
 use std::alloc::Allocator;
 use std::fs::{File, Files, Metadata, TryLockError};
 use std::{fs, io};
-use volume_copies::{CopyFault, copy_file};
+use volume_reading::{ListFault, WriteFault};
 
 /// An export: the path of the volume's file, the name of the file in the volume, and the path of the copy.
 #[derive(Clone, Copy)]

@@ -3,6 +3,7 @@
 #![tactic(auto)]
 
 mod cause;
+mod copying;
 mod disk;
 mod exporting;
 mod failure;
@@ -20,6 +21,7 @@ mod volume_file;
 mod watched_file;
 
 pub use cause::{Cause, Refused, first_block, refused_to_open, refused_to_read};
+pub use copying::{CopyFault, copy_file};
 pub use disk::{
     VolumeDisk, dump, not_listed, not_opened, not_opened_on_copy, not_read, open_disk,
     open_to_write, read_file, refused_on_copy, unreadable,

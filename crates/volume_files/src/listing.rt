@@ -2,9 +2,9 @@
 ghost use Rattle.std.specs.Prelude.{Some};
 ghost use Rattle.volume_files.specs.Dump.{head_line, row_text, row_line};
 
-use file_rows::{Form, WriteFault};
 use std::fmt;
 use std::io::Write;
+use volume_reading::{Form, WriteFault};
 
 /// Up to 16 bytes of a file, and the offset of the first of them.
 #[derive(Clone, Copy)]

@@ -5,7 +5,7 @@ ghost use Rattle.volume_codec.specs.Super.{SuperValue, IsAsked, block_count};
 ghost use Rattle.recovery.specs.Migration.{asked_of};
 ghost use Rattle.new_volume.specs.Formatting.{IsZero};
 ghost use Rattle.log_format.specs.Asked.{RefusesLogFormat};
-ghost use Rattle.log_migration.specs.Migration.{HasMigratedToLog};
+ghost use Rattle.log_format.specs.Migration.{HasMigratedToLog};
 ghost use Rattle.volume_files.specs.Layouts.{MayMigrate};
 ghost use Rattle.volume_files.specs.Migration.{HasNewBlocks, HasNoBlocks, HasBecome, RefusesToBecome};
 
@@ -18,7 +18,7 @@ use crate::target::Target;
 use crate::volume_file::{apart, found_at, place};
 use device::Device;
 use log_codec::Sealing;
-use log_migration::{migrate_to_log, migrated_log_blocks};
+use log_format::{migrate_to_log, migrated_log_blocks};
 use new_volume::{NewFile, WriteListener};
 use page_entry::{PAGE, Refusal};
 use recovery::Volume;

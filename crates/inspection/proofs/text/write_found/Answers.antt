@@ -1,7 +1,7 @@
 use Rattle.std.proofs.Common.{rules, ◌++◌, length}
 use Rattle.std.specs.Io.KnownBytes.{Appends}
 use Rattle.inspection.specs.Text.{volume_line, file_lines, journal_lines, calls_line}
-use Rattle.file_rows.proofs.Public.{appends_both}
+use Rattle.volume_reading.proofs.Public.{appends_both}
 use Rattle.inspection.proofs.Writing.{appends_all}
 use Rattle.inspection.proofs.text.write_found.Goals as goal
 

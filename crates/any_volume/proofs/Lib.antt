@@ -1,2 +1,0 @@
-mod Volumes
-pub mod Public

@@ -1,0 +1,4 @@
+mod Appended
+mod Comparing
+mod Printing
+mod Crossing

@@ -1,0 +1,4 @@
+pub mod Failure
+pub mod Replies
+pub mod inside
+pub mod Printed

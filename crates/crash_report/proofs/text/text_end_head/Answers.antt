@@ -1,5 +1,0 @@
-use Rattle.crash_report.proofs.Writing.{where_ok}
-use Rattle.crash_report.proofs.text.text_end_head.Goals as goal
-
-pub returns : goal.returns
-returns g c = where_ok c.write.result (λ is. (_, is)) c.write.ensures.bytes

@@ -1,7 +1,0 @@
-use Rattle.std.specs.Io.KnownBytes.{Appends}
-use Rattle.crash_report.specs.Text.{marks_text}
-use Rattle.crash_report.proofs.text.text_marks.Given as goal
-
-abbrev pub invariant-loop-mark : goal.invariant-loop-mark
-invariant-loop-mark g l =
-    Appends (g.W.Write.contents l.initial.out) (g.W.Write.contents l.out) (marks_text l.row.found.items l.mark)

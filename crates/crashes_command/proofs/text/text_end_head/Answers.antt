@@ -1,0 +1,5 @@
+use Rattle.crashes_command.proofs.Writing.{where_ok}
+use Rattle.crashes_command.proofs.text.text_end_head.Goals as goal
+
+pub returns : goal.returns
+returns g c = where_ok c.write.result (λ is. (_, is)) c.write.ensures.bytes

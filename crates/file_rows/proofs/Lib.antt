@@ -1,6 +1,0 @@
-mod Appending
-mod Faults
-mod Files
-mod PageCopy
-mod PageText
-pub mod Public

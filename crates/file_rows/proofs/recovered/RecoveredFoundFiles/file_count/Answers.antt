@@ -1,9 +1,0 @@
-use Rattle.std.proofs.Common.{rules, ◌≡◌, length, sym, ◌∙◌}
-use Rattle.file_rows.proofs.Files.{as_many_files}
-use Rattle.file_rows.proofs.recovered.RecoveredFoundFiles.file_count.Goals as goal
-
-pub returns-clause-listed : goal.returns-clause-listed
-returns-clause-listed g c = λ bytes is.
-    let volume = c.args.self.now in
-    let value : c.file_count.result ≡ length volume.table.files = search rules in
-    as_many_files volume bytes is ∙ sym value

@@ -1,7 +1,0 @@
-use Rattle.std.proofs.Common.{sym, ◌∙◌}
-use Rattle.file_rows.proofs.Files.{length_of_file}
-use Rattle.file_rows.proofs.recovered.RecoveredFoundFiles.length.Goals as goal
-
-pub returns-clause-long : goal.returns-clause-long
-returns-clause-long g c = λ bytes is.
-    length_of_file c.args.self.now bytes is c.args.file c.requires.there ∙ sym c.size.ensures

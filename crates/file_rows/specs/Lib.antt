@@ -1,5 +1,0 @@
-pub mod Faults
-pub mod Reading
-pub mod Recovered
-pub mod Rows
-pub mod inside

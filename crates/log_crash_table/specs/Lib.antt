@@ -1,4 +1,0 @@
-pub mod Twins
-pub mod Runs
-pub mod Trials
-pub mod inside

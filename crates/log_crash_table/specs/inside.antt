@@ -1,2 +1,0 @@
--- Definitions that connect private code with the definitions in public contracts.
-pub mod Shown

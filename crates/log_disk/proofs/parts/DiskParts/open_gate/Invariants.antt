@@ -1,4 +1,0 @@
-use Rattle.log_disk.proofs.parts.DiskParts.open_gate.Given as goal
-
-abbrev pub ghost-with_write : goal.ghost-with_write
-ghost-with_write g a = g.D.Device.moment a._device.now

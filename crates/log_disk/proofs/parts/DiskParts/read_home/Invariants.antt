@@ -1,4 +1,0 @@
-use Rattle.log_disk.proofs.parts.DiskParts.read_home.Given as goal
-
-abbrev pub ghost-with_calls : goal.ghost-with_calls
-ghost-with_calls g a = g.D.Device.moment a._device.now

@@ -1,5 +1,0 @@
--- Definitions that connect private code with the definitions in public contracts.
-pub mod Committing
-pub mod Keeping
-pub mod Opened
-pub mod Times

@@ -1,4 +1,0 @@
-pub mod Booting
-pub mod Reopened
-pub mod Standing
-pub mod Surviving

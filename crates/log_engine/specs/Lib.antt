@@ -1,4 +1,0 @@
-pub mod Openings
-pub mod Survival
-pub mod Runs
-pub mod inside

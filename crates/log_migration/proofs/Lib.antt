@@ -1,3 +1,0 @@
-mod Filled
-mod Begun
-mod Migrated

@@ -1,2 +1,0 @@
--- Definitions that connect the private code of this crate to its public definitions. No public contract names them.
-pub mod Copying

@@ -1,5 +1,0 @@
-mod ChainBlocks
-mod Homes
-mod LoggedFiles
-mod Newest
-mod Read

@@ -1,0 +1,10 @@
+pub mod Shown
+pub mod inside
+pub mod Serving
+pub mod Disk
+pub mod Opening
+pub mod Made
+pub mod Laws
+pub mod Openings
+pub mod Survival
+pub mod Runs

@@ -1,3 +1,0 @@
--- Definitions that connect private code with the definitions in public contracts.
-pub mod Failure
-pub mod Replay

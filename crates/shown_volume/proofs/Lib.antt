@@ -1,5 +1,0 @@
-mod Closing
-mod Gates
-pub mod Public
-mod Records
-mod Texts

@@ -1,5 +1,0 @@
-use Rattle.shown_volume.specs.inside.Closing.{AreHomeUpTo}
-use Rattle.shown_volume.proofs.shown.ShownVolume.are_home.Given as goal
-
-abbrev pub invariant-loop-place : goal.invariant-loop-place
-invariant-loop-place g l = AreHomeUpTo l.self l.newer l.oldest l.place

@@ -1,5 +1,0 @@
-use Rattle.shown_volume.specs.inside.Closing.{HasTextUpTo}
-use Rattle.shown_volume.proofs.shown.ShownVolume.descriptor_of.Given as goal
-
-abbrev pub invariant-loop-i : goal.invariant-loop-i
-invariant-loop-i g l = HasTextUpTo l.self-inside.blocks l.first l.i l.bytes.items
