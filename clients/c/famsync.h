@@ -23,9 +23,9 @@
  * unacknowledged commit.
  *
  * A file is divided into pages, and the volume's file into blocks, of 4,096 bytes each. Each page
- * has a block of its own, called the page's place. The volume's file also contains journals or a
- * log. A commit first writes the changed pages to a journal or to the log. Later the library writes
- * these pages to their places.
+ * has a block of its own, called the page's place. The volume's file also contains a log. A
+ * commit first writes the changed pages to the log. Later the library writes these pages to their
+ * places.
  *
  * Each call that returns an int returns FAMSYNC_OK or one of the negative codes below.
  * famsync_strerror describes a code, and famsync_error the last failure. Any number of threads may
@@ -44,7 +44,8 @@
  * the parent.
  *
  * A file can't grow past its capacity, which is set when the volume is made. A layout is one of six
- * formats of a volume (see struct famsync_plan). In layouts 1 and 2 file lengths never change.
+ * formats of a volume. The library uses layouts 5 and 6. Only the program `famsync` uses layouts 1
+ * to 4.
  */
 #ifndef FAMSYNC_H
 #define FAMSYNC_H
@@ -105,9 +106,9 @@ enum famsync_code {
     FAMSYNC_BUSY = -35,    /* From famsync_backup: another backup is being made. From
                               famsync_msync: the session has made 2^32 - 1 commits, or a thread
                               stored to plain memory during the commit (only with
-                              FAMSYNC_TRACK_KERNEL). From famsync_open and famsync_rollback, in
-                              layouts 5 and 6: no number is left for another opening (a volume
-                              allows at most 2^64 - 2 openings). From a commit or a
+                              FAMSYNC_TRACK_KERNEL). From famsync_open and famsync_rollback: no
+                              number is left for another opening (a volume allows at most 2^64 - 2
+                              openings). From a commit or a
                               rollback: this thread holds a group (see famsync_begin). From
                               famsync_close: a group is open. */
 
@@ -167,8 +168,7 @@ enum famsync_tracking { FAMSYNC_TRACK_SIGNALS = 0, FAMSYNC_TRACK_KERNEL = 1 };
 const char *famsync_version(void);
 
 /* A file of a new volume. `name` has 1 to 32 characters from '!' to '~'. `length` and `capacity`
-   are in bytes. `capacity` is the file's greatest possible length; 0 means `length`. In layouts 1
-   and 2 `capacity` has to be 0 or equal to `length`. */
+   are in bytes. `capacity` is the file's greatest possible length; 0 means `length`. */
 struct famsync_new_file {
     const char *name;
     uint64_t length;
@@ -179,13 +179,7 @@ struct famsync_new_file {
    fields at the end. */
 struct famsync_plan {
     size_t size;
-    unsigned layout; /* 1 to 6; 0 means 5 */
-    /* The number of slots of each journal. A slot has room for one page.
-       Layouts 1 and 2: 1 to 1,020; 0 means 1,020.
-       Layout 3: 2 to 1,020; 0 means 1,020.
-       Layout 4: 2 to 65,535; 0 means 1,024.
-       Layouts 5 and 6 have no journals, so `slots` has to be 0. */
-    unsigned slots;
+    unsigned layout;                     /* 5 or 6; 0 means 5 */
     unsigned files;                      /* the number of files, 1 to 64 */
     const struct famsync_new_file *file; /* the files */
     int preallocate;                     /* not 0: allocate all blocks of the volume now; 0:
@@ -193,8 +187,8 @@ struct famsync_plan {
     char *message;                       /* a buffer for one line that explains why the volume
                                             wasn't made */
     size_t message_size;                 /* the buffer's size in bytes; a longer line is cut off */
-    unsigned log;                        /* layouts 5 and 6: the number of blocks of the log, 4 to
-                                            2^24; 0 means 16,384 (64 MB) */
+    unsigned log;                        /* the number of blocks of the log, 4 to 2^24; 0 means
+                                            16,384 (64 MB) */
     uint64_t key;                        /* layout 6: the key of the commits' digests (checksums); 0
                                             means a random key */
 };
@@ -206,13 +200,9 @@ struct famsync_plan {
    renames VOLUME.new to VOLUME. VOLUME.new may remain if the process is killed or the system
    crashes.
 
-   A commit can have at most this number of pages:
-
-   - Layouts 1 and 2: `slots`.
-   - Layouts 3 and 4: `slots` - 1.
-   - Layouts 5 and 6: 65,534, or fewer if the log is short. The log must have room for the pages, a
-     list of the pages, a block with the files' lengths, and one free block. So a log of 16,384
-     blocks allows 16,366 pages.
+   A commit can have at most 65,534 pages, or fewer if the log is short. The log must have room for
+   the pages, a list of the pages, a block with the files' lengths, and one free block. So a log of
+   16,384 blocks allows 16,366 pages.
 
    Without `preallocate`, commits fail with FAMSYNC_NOSPACE while the disk is full.
 
@@ -270,9 +260,8 @@ uint64_t famsync_capacity(const famsync *handle, unsigned file);
 unsigned famsync_frames(const famsync *handle);
 
 /* Sets the length of a file, as ftruncate does. FAMSYNC_EINVAL: the length is more than the file's
-   capacity, or the volume has layout 1 or 2. If the file shrinks, the bytes past its new end are
-   lost. If the file grows, the added bytes are zeros. Like a write, the new length becomes durable
-   with the next famsync_msync.
+   capacity. If the file shrinks, the bytes past its new end are lost. If the file grows, the added bytes are zeros.
+   Like a write, the new length becomes durable with the next famsync_msync.
 
    All added pages wait for the next commit, like written pages. If the file's old end is within a
    page, this page waits, too. FAMSYNC_NOFRAME: more pages would wait than one commit can have. In
@@ -334,8 +323,8 @@ int famsync_write(famsync *handle, unsigned file, uint64_t offset, const void *b
 
    After a commit is acknowledged, the library writes the commit's pages to their places. A thread
    of the library does this while no call is in progress. Later calls, at the latest famsync_close,
-   write the remaining pages. In layouts 4 to 6 the thread begins to write after 10 ms without a
-   commit. In layouts 5 and 6 the thread also begins when half of the log is in use. With
+   write the remaining pages. The thread begins to write after 10 ms without a commit, or when half
+   of the log is in use. With
    `foreground` there is no such thread. */
 int famsync_msync(famsync *handle, uint64_t *mark);
 
@@ -429,9 +418,7 @@ struct famsync_stat {
     uint64_t frames;        /* the most pages that one commit can have */
     uint64_t staged;        /* the number of pages that wait for a commit, including pages of plain
                                memory */
-    uint64_t unwritten;     /* Layouts 1 to 4: the number of blocks in all commits with unfinished
-                               writes or syncs. A block in two of these commits counts twice.
-                               Layouts 5 and 6: the number of the log's blocks in use. */
+    uint64_t unwritten;     /* the number of the log's blocks in use */
     uint64_t reads;         /* reads of the volume's file */
     uint64_t writes;        /* writes to the volume's file */
     uint64_t syncs;         /* syncs of the volume's file */
@@ -447,11 +434,10 @@ int famsync_stat(famsync *handle, struct famsync_stat *stat);
    If the structure has fields that the library doesn't know, famsync_volume_info sets them to 0. */
 struct famsync_volume_info {
     size_t size;
-    uint64_t layout;   /* 1 to 6 */
+    uint64_t layout;   /* 5 or 6 */
     uint64_t blocks;   /* the number of blocks of the volume */
     uint64_t files;    /* the number of files */
-    uint64_t slots;    /* layouts 1 to 4: the number of slots of each journal; otherwise 0 */
-    uint64_t log;      /* layouts 5 and 6: the number of blocks of the log; otherwise 0 */
+    uint64_t log;      /* the number of blocks of the log */
     uint64_t log_used; /* the number of the log's blocks in use */
     uint64_t frames;   /* the most pages that one commit can have; the option `frames` can set a
                           lower limit (see famsync_frames) */
@@ -490,8 +476,8 @@ int famsync_backup(famsync *handle, int descriptor);
  *
  * A commit copies each page that was stored to. Both the page and the copy use memory. After the
  * committed page is written to its place, the library can return this memory to the system. The
- * library does this when committed pages and their copies use more than `budget` bytes. In layouts
- * 5 and 6 the library keeps the memory of each page whose commit is still in the log. So the memory
+ * library does this when committed pages and their copies use more than `budget` bytes. The
+ * library keeps the memory of each page whose commit is still in the log. So the memory
  * of committed pages and their copies can exceed the budget by up to twice the log's length.
  *
  * As with any mapped file, a load raises SIGBUS if the volume's file can't be read or was

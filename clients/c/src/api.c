@@ -89,14 +89,11 @@ static int read_super(famsync *handle)
         return explain(FAMSYNC_LAYOUT, "this volume has layout %u; copy it with `famsync migrate --layout 5 OLD NEW`",
                        layout_with_journals(head));
     handle->layout = head[7] - (unsigned)'0';
-    handle->slots = (uint32_t)number_in(head + 12, 4);
     for (unsigned i = 0; i < MOST_FILES; i++)
         handle->file[i].capacity = number_in(head + 64 + 48 * (size_t)i, 8);
     said = number_in(head + 16, 4);
     if (memcmp(head, "FAMSYNC", 7) != 0 || said == 0)
         said = 1;
-    handle->space.journals = head[7] == '1' ? 1 : head[7] == '4' ? 4 : 2;
-    handle->space.slots = (uint32_t)head[12] << 24 | (uint32_t)head[13] << 16 | (uint32_t)head[14] << 8 | head[15];
     handle->blocks = (uint32_t)(said < blocks ? said : blocks);
     return FAMSYNC_OK;
 }
@@ -119,7 +116,7 @@ static int read_files(famsync *handle)
     return home <= handle->blocks ? FAMSYNC_OK : FAMSYNC_DAMAGED;
 }
 
-/* The number of blocks of the log; 0 if the volume has journals. */
+/* The number of blocks of the log; 0 if the core knows none. */
 static uint64_t blocks_of_log(famsync *handle)
 {
     uint64_t blocks = 0, used, commits;
@@ -142,15 +139,12 @@ static int read_volume(famsync *handle, unsigned wanted)
     handle->files = (unsigned)files;
     handle->frames = (unsigned)frames;
     handle->head = (uint32_t)head;
-    handle->shares_syncs = famsync_core_shares_syncs(handle->core, &handle->core.at) == 1;
     handle->log.blocks = blocks_of_log(handle);
-    if (handle->log.blocks > 0)
-        handle->slots = 0;
-    return read_files(handle);
+    return handle->log.blocks > 0 ? read_files(handle) : FAMSYNC_DAMAGED;
 }
 
 /* What opening recorded, in a session that only reads: if commits are carried out, a crash left them, and this session
-   can't write. Otherwise the calls count as made: syncs, and in a volume with a log a new start behind no commit. */
+   can't write. Otherwise the calls count as made: syncs, and a new start behind no commit. */
 static int judge_recovery(famsync *handle)
 {
     int64_t waiting = famsync_core_waiting(handle->core, &handle->core.at);
@@ -194,13 +188,6 @@ int begin_core(famsync *handle, unsigned frames)
     return code;
 }
 
-/* How many writes are gathered: between two syncs no more is written than two journals have, or one where there aren't
-   four, before the files. With a log there may be more, and the rest is made after them. */
-static unsigned most_gathered(const famsync *handle)
-{
-    return handle->log.blocks > 0 ? MOST_WAITING : handle->head;
-}
-
 /* Makes what the opening has recorded. */
 static int make_opening_calls(famsync *handle)
 {
@@ -216,7 +203,7 @@ static int open_core(famsync *handle, const struct famsync_options *options)
     struct opening opening = {0};
     int code = begin_with_blocks(handle, options->frames, &opening);
     if (code == FAMSYNC_OK)
-        code = begin_gathering(&handle->gathered, most_gathered(handle));
+        code = begin_gathering(&handle->gathered, MOST_WAITING);
     if (code == FAMSYNC_OK)
         code = handle->volume.readonly ? judge_recovery(handle) : make_opening_calls(handle);
     if (code == FAMSYNC_OK)

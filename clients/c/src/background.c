@@ -7,29 +7,14 @@
 /* How long the thread waits for another commit, in nanoseconds. */
 #define PAUSE 10000000l
 
-/* The most journals that a layout has. */
-#define MOST_JOURNALS 4u
-
-/* A journal is used again once the commit in it is written home, so those of all earlier ones are, too. A log says it
-   of its commits. */
-uint32_t newest_home(famsync *handle)
-{
-    if (handle->log.blocks > 0)
-        return handle->log.home;
-    if (famsync_core_unwritten(handle->core, &handle->core.at) == 0 &&
-        famsync_core_waiting(handle->core, &handle->core.at) == 0)
-        return handle->numbered;
-    return handle->numbered > MOST_JOURNALS ? handle->numbered - MOST_JOURNALS : 0;
-}
-
 /* A commit is home once a start behind it counts. Until the calls of that are made, what was home before is answered.
  */
 void note_log(famsync *handle)
 {
     uint64_t commits = 0;
     uint32_t home;
-    if (handle->log.blocks == 0 || famsync_core_log(handle->core, &handle->log.blocks, &handle->log.used, &commits,
-                                                    &handle->core.at) != FAMSYNC_CORE_OK)
+    if (famsync_core_log(handle->core, &handle->log.blocks, &handle->log.used, &commits, &handle->core.at) !=
+        FAMSYNC_CORE_OK)
         return;
     if (famsync_core_waiting(handle->core, &handle->core.at) > 0)
         return;
@@ -39,13 +24,12 @@ void note_log(famsync *handle)
     handle->log.home = home;
 }
 
-/* Whether to write home although commits go on. With a log that is the case once half of it is in use: so what many
-   commits have of a page is written once. Then the start behind them is written, and the next commits make it count by
-   their own syncs. */
+/* Whether to write home although commits go on: once half of the log is in use, so that what many commits have of a
+   page is written once. Then the start behind them is written, and the next commits make it count by their own syncs.
+ */
 static bool is_due(const famsync *handle)
 {
-    return handle->log.blocks > 0 ? handle->log.used * 2 >= handle->log.blocks && !handle->log.start_written
-                                  : !handle->shares_syncs;
+    return handle->log.used * 2 >= handle->log.blocks && !handle->log.start_written;
 }
 
 /* Makes one step, with the blocks that it wants. If it isn't refused, `left` becomes whether another one is to come. */
@@ -65,7 +49,7 @@ static int step(famsync *handle)
     }
 }
 
-/* The same with a log, whose steps may come to many writes before a sync. */
+/* The same; the steps may come to many writes before a sync. */
 static int step_of_log(famsync *handle)
 {
     int code = step(handle);
@@ -78,8 +62,6 @@ int write_some_out(famsync *handle, uint64_t pages)
 {
     uint64_t steps = 2 * (pages + 2);
     int code = FAMSYNC_OK;
-    if (handle->log.blocks == 0)
-        return FAMSYNC_OK;
     for (; steps > 0 && code == FAMSYNC_OK && is_due(handle); steps--)
         code = step_of_log(handle);
     return drain(handle);
@@ -94,7 +76,7 @@ int write_out(famsync *handle, bool gives_way)
     do {
         if (gives_way && atomic_load(&handle->callers) > 0)
             return FAMSYNC_OK;
-        code = handle->log.blocks > 0 ? step_of_log(handle) : step(handle);
+        code = step_of_log(handle);
     } while (code == FAMSYNC_OK && handle->left && !ends_with_sync(handle) && !ends_with_start(handle));
     drained = ends_with_start(handle) ? drain_all(handle) : drain(handle);
     if (drained == FAMSYNC_OK)

@@ -3,7 +3,7 @@
    At first all commits are written home, so that the home blocks have these files. Then the home blocks are copied,
    some at a time, and other calls come in between. Whatever is to overwrite a home block that isn't copied yet has its
    old bytes copied before (`save_for_backup`). The super block comes last, after a sync: a file that lacks a part of
-   its backup is no volume. What is zeros, as the closed journals or an empty log, is left as a hole. A log begins again
+   its backup is no volume. What is zeros, as an empty log, is left as a hole. The log begins again
    with the start of a new volume, and in layout 6 with a new key. */
 #include "inside.h"
 
@@ -20,7 +20,7 @@
 struct backup {
     int file;                  /* what it is written to */
     bool locked;               /* that is locked */
-    uint32_t next;             /* home blocks before this one are copied; no block of a journal or log ever is */
+    uint32_t next;             /* home blocks before this one are copied; no block of the log ever is */
     unsigned char *saved;      /* a bit for each block: it was copied before its turn */
     size_t room;               /* the bytes of that */
     int code, error;           /* what went wrong as a block was copied before its turn, and errno */
@@ -157,7 +157,7 @@ static void give_back(const struct backup *backup)
 }
 
 /* From here on the home blocks are copied before they are overwritten; the caller has its turn. The block before the
-   first file's has the lengths; in a volume without lengths it is of a closed journal, and doesn't matter. */
+   first file's has the lengths. */
 static int begin(famsync *handle, struct backup *backup)
 {
     int code = handle->backup ? explain(FAMSYNC_BUSY, "another backup with this handle is in progress")
@@ -240,7 +240,7 @@ static int end(famsync *handle, const struct backup *backup, int code)
 static int write_backup(famsync *handle, struct backup *backup)
 {
     int code = end(handle, backup, copy_homes(handle, backup));
-    if (code == FAMSYNC_OK && handle->log.blocks > 0)
+    if (code == FAMSYNC_OK)
         code = write_first_start(backup->file);
     if (code == FAMSYNC_OK)
         code = sync_backup(backup);

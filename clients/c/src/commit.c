@@ -4,17 +4,8 @@
 
 #include <errno.h>
 
-/* Where the commit before was begun to be written home, its writes wait for a sync: they get one of their own. Those of
-   a volume with a log need none. */
-static int end_write_out(famsync *handle)
-{
-    if (famsync_core_waiting(handle->core, &handle->core.at) == 0)
-        return FAMSYNC_OK;
-    return handle->log.blocks > 0 ? drain_all(handle) : write_out(handle, false);
-}
-
-/* Has the core make a commit, with the blocks that it wants. With a log it may first write earlier commits home: then
-   calls are made when there are many, since they take memory. */
+/* Has the core make a commit, with the blocks that it wants. It may first write earlier commits home: then calls are
+   made when there are many, since they take memory. */
 static int make_commit(famsync *handle, uint32_t *number)
 {
     for (;;) {
@@ -39,32 +30,28 @@ void forget_staged(famsync *handle)
     forget_claims(handle);
 }
 
-/* Makes a commit in the core, and what it records; it is acknowledged once all that was made. The sync of a commit
-   would part the writes of the one before, and so these come first; or where syncs are shared it serves them, too, but
-   for a commit that has nothing to write. */
+/* Makes a commit in the core, and what it records; it is acknowledged once all that was made. Writes of earlier commits
+   need no sync of their own. */
 static int commit(famsync *handle, uint64_t *mark)
 {
     uint32_t number = 0;
     int64_t pages = famsync_core_staged(handle->core, &handle->core.at);
-    int code = handle->shares_syncs ? FAMSYNC_OK : end_write_out(handle), drained;
-    bool counts = pages > 0;
+    int code = reserve_space(handle), drained;
+    bool counts;
     int error;
-    if (code == FAMSYNC_OK)
-        code = reserve_space(handle);
     if (code == FAMSYNC_OK)
         code = write_some_out(handle, (uint64_t)pages);
     if (code != FAMSYNC_OK)
         return code;
     code = make_commit(handle, &number);
-    if (handle->log.blocks > 0) /* before, no sync waited */
-        counts = ends_with_sync(handle);
+    counts = ends_with_sync(handle); /* before, none waited */
     error = errno;
     drained = drain(handle);
     if (drained != FAMSYNC_OK)
         return drained;
     errno = error;
-    if (code == FAMSYNC_OK)
-        code = end_write_out(handle);
+    if (code == FAMSYNC_OK && famsync_core_waiting(handle->core, &handle->core.at) > 0)
+        code = drain_all(handle);
     if (code != FAMSYNC_OK)
         return code;
     int64_t acknowledged = famsync_core_acknowledged(handle->core, &handle->core.at);

@@ -135,9 +135,9 @@ static bool look_at_newest(famsync *handle, struct call *newest)
 }
 
 /* Whether a call writes only to the blocks of the starts. */
-static bool writes_start(const famsync *handle, const struct call *call)
+static bool writes_start(const struct call *call)
 {
-    return handle->log.blocks > 0 && call->kind != FAMSYNC_CORE_CALL_SYNC && call->offset >= PAGE &&
+    return call->kind != FAMSYNC_CORE_CALL_SYNC && call->offset >= PAGE &&
            call->offset + call->length <= FIRST_OF_LOG * PAGE;
 }
 
@@ -145,7 +145,7 @@ bool carries_out_commits(famsync *handle)
 {
     struct call call;
     for (uint32_t others = 0; look_at(handle, others, &call); others++)
-        if (call.kind != FAMSYNC_CORE_CALL_SYNC && !writes_start(handle, &call))
+        if (call.kind != FAMSYNC_CORE_CALL_SYNC && !writes_start(&call))
             return true;
     return false;
 }
@@ -155,7 +155,7 @@ void note_position(famsync *handle)
 {
     struct call call;
     for (uint32_t others = 0; look_at(handle, others, &call); others++)
-        if (writes_start(handle, &call) && call.length == PAGE)
+        if (writes_start(&call) && call.length == PAGE)
             begin_log(handle, (uint32_t)call.bytes[16] << 24 | (uint32_t)call.bytes[17] << 16 |
                                   (uint32_t)call.bytes[18] << 8 | call.bytes[19]);
 }
@@ -169,7 +169,7 @@ bool ends_with_sync(famsync *handle)
 bool ends_with_start(famsync *handle)
 {
     struct call newest;
-    return handle->log.blocks > 0 && look_at_newest(handle, &newest) && writes_start(handle, &newest);
+    return look_at_newest(handle, &newest) && writes_start(&newest);
 }
 
 /* Gathers the oldest writes, up to a sync or to one that can't go with them. */
@@ -220,8 +220,8 @@ static struct reading blocks_of(const famsync *handle, const struct piece *piece
     uint64_t block = piece->offset / PAGE, end = (piece->offset + piece->length) / PAGE;
     if (end == block || end - block > MOST_READ)
         end = (piece->offset + piece->length + PAGE - 1) / PAGE;
-    if (block < first_forgettable(handle))
-        block = first_forgettable(handle);
+    if (block < FIRST_OF_LOG)
+        block = FIRST_OF_LOG;
     if (end > handle->blocks)
         end = handle->blocks;
     return (struct reading){(uint32_t)block, block < end ? (uint32_t)(end - block) : 0};

@@ -14,14 +14,9 @@
 #include <unistd.h>
 
 #define DEFAULT_LAYOUT 5u
-#define DEFAULT_SLOTS 1024u
-#define MOST_SLOTS_IN_ONE_BLOCK 1020u
 #define DEFAULT_LOG 16384u
 
-/* The first layouts with lengths, with commits that share syncs, and with a log; and the last one, which has a key. */
-#define FIRST_WITH_LENGTHS 3u
-#define FIRST_THAT_SHARES 4u
-#define FIRST_WITH_LOG FIRST_LAYOUT
+/* The last layout, which has a key. */
 #define LAST_LAYOUT 6u
 
 /* Where the super block has the layout's digit, and the key. */
@@ -46,7 +41,6 @@
 /* A volume that is to be made. */
 struct made {
     struct famsync_plan plan;
-    uint32_t lengths;      /* how many lengths blocks there are */
     uint32_t records;      /* the most records of a commit */
     uint64_t head, blocks; /* the blocks before those of the first file, and all */
     unsigned char super[PAGE], lengths_block[PAGE];
@@ -89,14 +83,7 @@ static const char *judge_file(const struct made *made, const struct famsync_new_
         return "a file's capacity must be at least 1";
     if (file->length > capacity_of(file))
         return "a file's length exceeds its capacity";
-    if (made->lengths == 0 && file->length < capacity_of(file))
-        return "in this layout a file's length must equal its capacity";
     return NULL;
-}
-
-static bool has_log(const struct famsync_plan *plan)
-{
-    return plan->layout >= FIRST_WITH_LOG;
 }
 
 /* The most records that a commit has in a log, with its descriptor. One block of the log stays free. */
@@ -110,41 +97,18 @@ static uint32_t most_records(uint64_t log)
 
 uint64_t most_pages(const famsync *handle)
 {
-    uint64_t records = handle->log.blocks > 0 ? most_records(handle->log.blocks) : handle->slots;
-    return records - (handle->layout >= FIRST_WITH_LENGTHS);
-}
-
-/* The most slots of a journal. A descriptor is one block, until commits share syncs. */
-static unsigned most_slots(unsigned layout)
-{
-    return layout < FIRST_THAT_SHARES ? MOST_SLOTS_IN_ONE_BLOCK : MOST_RECORDS;
-}
-
-/* Finds the most records of a commit, and the blocks before the lengths block and the files. */
-static const char *judge_journals(struct made *made)
-{
-    static const uint32_t JOURNALS[] = {1, 2, 2, 4};
-    const struct famsync_plan *plan = &made->plan;
-    if (plan->log != 0 || plan->key != 0)
-        return "only layouts 5 and 6 have a log, and only layout 6 has a key";
-    if (plan->slots <= made->lengths || plan->slots > most_slots(plan->layout))
-        return "the number of slots is outside this layout's range";
-    made->records = plan->slots;
-    made->head = 1 + JOURNALS[plan->layout - 1] * (1 + pages_of(16 + 4 * (uint64_t)plan->slots) + plan->slots);
-    return NULL;
+    return most_records(handle->log.blocks) - 1; /* one is for the lengths */
 }
 
 static const char *judge_log(struct made *made)
 {
     const struct famsync_plan *plan = &made->plan;
-    if (plan->slots != 0)
-        return "layouts 5 and 6 have a log instead of slots";
     if (plan->key != 0 && plan->layout != LAST_LAYOUT)
         return "only layout 6 has a key";
     if (plan->log < FIRST_OF_LOG || plan->log > MOST_LOG)
         return "a log must have 4 to 16,777,216 blocks";
     made->records = most_records(plan->log);
-    made->head = FIRST_OF_LOG + plan->log;
+    made->head = FIRST_OF_LOG + plan->log + 1;
     return NULL;
 }
 
@@ -156,9 +120,7 @@ static const char *judge_plan(struct made *made)
         return "the layout must be 5 or 6";
     if (plan->files < 1 || plan->files > MOST_FILES || !plan->file)
         return "a volume must have 1 to 64 files";
-    made->lengths = plan->layout >= FIRST_WITH_LENGTHS;
-    fault = has_log(plan) ? judge_log(made) : judge_journals(made);
-    made->head += made->lengths;
+    fault = judge_log(made);
     made->blocks = made->head;
     for (unsigned i = 0; i < plan->files && !fault; i++) {
         fault = judge_file(made, &plan->file[i]);
@@ -172,14 +134,14 @@ static const char *judge_plan(struct made *made)
 static void lay_out(struct made *made)
 {
     const struct famsync_plan *plan = &made->plan;
-    /* With a log the table has the blocks of a volume that has one slot in place of the log. */
-    uint64_t home = has_log(plan) ? FIRST_OF_LOG : made->head;
+    /* The table has the blocks of a volume that has one slot in place of the log (docs/FORMATS.md). */
+    uint64_t home = FIRST_OF_LOG;
     memcpy(made->super, "FAMSYNC", 7);
     made->super[LAYOUT_AT] = (unsigned char)('0' + plan->layout);
     put_number(made->super + 8, 4, plan->files);
-    put_number(made->super + 12, 4, has_log(plan) ? plan->log : plan->slots);
+    put_number(made->super + 12, 4, plan->log);
     put_number(made->super + 16, 4, made->blocks);
-    put_number(made->super + 20, 4, has_log(plan) ? FIRST_OF_LOG : 0);
+    put_number(made->super + 20, 4, FIRST_OF_LOG);
     put_number(made->super + KEY_AT, KEY_BYTES, plan->key);
     for (unsigned i = 0; i < plan->files; i++) {
         const struct famsync_new_file *file = &plan->file[i];
@@ -216,9 +178,9 @@ int write_first_start(int file)
 static int write_volume(const struct made *made, int file)
 {
     int code = set_size(made, file);
-    if (code == FAMSYNC_OK && has_log(&made->plan))
+    if (code == FAMSYNC_OK)
         code = write_first_start(file);
-    if (code == FAMSYNC_OK && made->lengths > 0)
+    if (code == FAMSYNC_OK)
         code = write_whole(file, made->lengths_block, PAGE, (made->head - 1) * PAGE);
     if (code == FAMSYNC_OK && sync_file(file) != 0)
         code = FAMSYNC_SYSTEM;
@@ -232,10 +194,8 @@ static bool is_as_asked(famsync *handle, const struct made *made)
 {
     const struct famsync_plan *plan = &made->plan;
     uint64_t home = made->head;
-    bool same = handle->files == plan->files && handle->head == made->head &&
-                handle->frames == made->records - made->lengths &&
-                handle->shares_syncs == (plan->layout >= FIRST_THAT_SHARES) && handle->log.blocks == plan->log &&
-                !carries_out_commits(handle);
+    bool same = handle->files == plan->files && handle->head == made->head && handle->frames == made->records - 1 &&
+                handle->log.blocks == plan->log && !carries_out_commits(handle);
     for (unsigned i = 0; i < plan->files && same; i++) {
         const struct file *file = &handle->file[i];
         same = strcmp(file->name, plan->file[i].name) == 0 && file->length == plan->file[i].length &&
@@ -390,9 +350,7 @@ static bool take_plan(const struct famsync_plan *given, struct famsync_plan *pla
     memcpy(plan, given, given->size < sizeof *plan ? given->size : sizeof *plan);
     if (plan->layout == 0)
         plan->layout = DEFAULT_LAYOUT;
-    if (plan->slots == 0 && !has_log(plan))
-        plan->slots = most_slots(plan->layout) < DEFAULT_SLOTS ? most_slots(plan->layout) : DEFAULT_SLOTS;
-    if (plan->log == 0 && has_log(plan))
+    if (plan->log == 0)
         plan->log = DEFAULT_LOG;
     return true;
 }

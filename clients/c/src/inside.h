@@ -21,8 +21,8 @@
 /* The blocks of the last READS_KEPT reads stay in the core. A further read makes the core forget
    the blocks of the oldest one. */
 #define READS_KEPT 4u
-/* In a volume with a log, the library makes the waiting calls once there are MOST_WAITING, even if
-   the newest one isn't a sync. */
+/* The library makes the waiting calls once there are MOST_WAITING, even if the newest one isn't a
+   sync. */
 #define MOST_WAITING 1024u
 /* The first block of a log. The blocks before it are the super block, the selector, and the two
    starts of the log. */
@@ -128,7 +128,7 @@ struct counts {
 /* The log of a volume of layout 5 or 6. If a commit isn't home, its pages are read from the log,
    and its blocks of the log are in use. */
 struct log {
-    uint64_t blocks;    /* the number of its blocks; 0 if the volume has journals */
+    uint64_t blocks;    /* the number of its blocks */
     uint64_t used;      /* the number of blocks in use */
     uint32_t home;      /* the newest commit that is home together with all earlier ones, counted
                            like `numbered` */
@@ -153,11 +153,8 @@ struct space {
     enum seen sees;      /* whether the system tells holes of the volume's file from data */
     bool cannot;         /* the file system can't allocate blocks ahead of writes */
     struct span hole;    /* blocks of the last hole that was found; none once blocks are written */
-    uint64_t first;      /* with a log: the position of this session's first commit */
-    uint64_t next, end;  /* with a log: the next commit's position; the end of the blocks that are allocated */
-    unsigned journals;   /* without a log: the number of journals, of their slots, and of the slots that are
-                            allocated in each journal */
-    uint32_t slots, records;
+    uint64_t first;      /* the position of this session's first commit */
+    uint64_t next, end;  /* the next commit's position; the end of the blocks of the log that are allocated */
 };
 
 /* A backup that is being made (backup.c). */
@@ -203,13 +200,10 @@ struct famsync {
     unsigned files;
     struct file file[MOST_FILES];
     unsigned frames;
-    unsigned layout;   /* the volume's layout */
-    uint32_t slots;    /* the number of slots of each journal; 0 if the volume has a log */
-    uint32_t blocks;   /* the number of blocks of the volume */
-    uint32_t head;     /* the first block of the first file; 0 until the core has opened the
-                          volume */
-    bool shares_syncs; /* the syncs of a commit also serve earlier commits: the volume has four
-                          journals, or a log */
+    unsigned layout; /* the volume's layout */
+    uint32_t blocks; /* the number of blocks of the volume */
+    uint32_t head;   /* the first block of the first file; 0 until the core has opened the
+                        volume */
     struct log log;
     struct gathered gathered;
     struct counts counts;
@@ -222,8 +216,7 @@ struct famsync {
     uint64_t earlier;  /* the number of commits acknowledged before this core began; a rollback
                           begins another core */
     bool resized;      /* a new length waits for a commit */
-    uint32_t numbered; /* the number of commits that had pages; with a log, the number of commits
-                          that recorded calls */
+    uint32_t numbered; /* the number of commits that recorded calls */
     bool is_tracked;   /* the kernel tracks stores to plain memory, not the handler of SIGSEGV */
     struct tracker tracker;
     uint64_t transaction;     /* the number of the open transaction; 0 if none is open */
@@ -233,7 +226,7 @@ struct famsync {
                                  volume's file */
     uint64_t budget;          /* the most bytes that plain memory keeps for committed pages and
                                  their copies */
-    uint32_t given_up_to;     /* with a log: the value of `newest_home` when pages were last
+    uint32_t given_up_to;     /* the value of `log.home` when pages were last
                                  returned to the system */
     famsync_memory *memories; /* the open plain memories, linked by `next_one` */
     atomic_uint closing;      /* the lock to open and close pages of plain memory; the handler of
@@ -252,12 +245,6 @@ struct famsync {
     bool left;             /* a part of a commit is still to be written */
     famsync *next, **link; /* in the list of this process's handles */
 };
-
-/* The first block that the core can forget. */
-static inline uint32_t first_forgettable(const famsync *handle)
-{
-    return handle->log.blocks > 0 ? FIRST_OF_LOG : handle->head;
-}
 
 /* codes.c: the library's code for a code of the core. `answer_of` is for the core's answers in a
    session. If the core had no memory to record a call, now or earlier, `answer_of` ends the session
@@ -494,8 +481,6 @@ int write_some_out(famsync *handle, uint64_t pages);
 void note_log(famsync *handle);
 /* Makes all remaining writes of all commits. */
 int write_all_out(famsync *handle);
-/* The newest commit that is home together with all earlier ones, counted like `numbered`. */
-uint32_t newest_home(famsync *handle);
 
 /* forks.c: the list of this process's handles. A forked process closes their volumes. */
 int enter_handle(famsync *handle);

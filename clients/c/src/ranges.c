@@ -221,8 +221,6 @@ static int refused_length(famsync *handle, const struct file *file, uint64_t len
     if (code == FAMSYNC_EINVAL && length > file->capacity)
         return explain(code, "the length %llu exceeds the capacity of \"%s\", %llu", (unsigned long long)length,
                        file->name, (unsigned long long)file->capacity);
-    if (code == FAMSYNC_EINVAL)
-        return explain(code, "in layout %u a file's length never changes", handle->layout);
     if (code != FAMSYNC_NOFRAME || length <= file->length)
         return code;
     return explain(code, "%llu pages for \"%s\" and %lld waiting pages; one commit can have at most %u",

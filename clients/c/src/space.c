@@ -1,6 +1,6 @@
 /* Room on the disk. Before a commit is handed to the core, the library allocates all blocks that the commit writes, now
-   or later: blocks of the log or the journals, and the home blocks of its pages. So a full disk refuses a commit of
-   which nothing is written yet, and the session goes on. No byte changes by that, and no block is asked for twice. */
+   or later: blocks of the log, and the home blocks of its pages. So a full disk refuses a commit of which nothing is
+   written yet, and the session goes on. No byte changes by that, and no block is asked for twice. */
 #include "inside.h"
 
 #include <errno.h>
@@ -275,35 +275,18 @@ static void allocate_ahead(famsync *handle)
         (void)allocate_log(handle, handle->space.next + ahead);
 }
 
-/* Any of the journals may have the next commit, in its first slots. */
-static int reserve_journals(famsync *handle, uint32_t records)
-{
-    struct space *space = &handle->space;
-    uint64_t descriptor = (16 + 4 * (uint64_t)space->slots + PAGE - 1) / PAGE, length = 1 + descriptor + space->slots;
-    int code = FAMSYNC_OK;
-    if (records > space->slots)
-        records = space->slots;
-    if (records <= space->records)
-        return FAMSYNC_OK;
-    for (unsigned i = 0; i < space->journals && code == FAMSYNC_OK; i++)
-        code = allocate(handle, 1 + i * length, 1 + i * length + 1 + descriptor + records);
-    if (code == FAMSYNC_OK)
-        space->records = records;
-    return code;
-}
-
 int reserve_space(famsync *handle)
 {
     struct space *space = &handle->space;
     uint32_t records = (uint32_t)famsync_core_staged(handle->core, &handle->core.at) + handle->resized;
     uint64_t end = space->next + blocks_of_commit(records);
-    bool has_log = handle->log.blocks > 0, goes_on = has_log && end > space->end;
+    bool goes_on = end > space->end;
     int code = FAMSYNC_OK;
     space->hole = (struct span){0, 0};
     if (records == 0 || space->cannot)
         return FAMSYNC_OK;
-    if (goes_on || !has_log)
-        code = has_log ? allocate_log(handle, end) : reserve_journals(handle, records);
+    if (goes_on)
+        code = allocate_log(handle, end);
     if (code == FAMSYNC_OK && handle->resized && !is_known(space, handle->head - 1))
         code = allocate(handle, handle->head - 1, handle->head);
     if (code == FAMSYNC_OK && space->claims > 0)

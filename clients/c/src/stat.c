@@ -55,7 +55,6 @@ int famsync_volume_info(famsync *handle, struct famsync_volume_info *info)
     found.layout = handle->layout;
     found.blocks = handle->blocks;
     found.files = handle->files;
-    found.slots = handle->slots;
     found.log = handle->log.blocks;
     (void)famsync_core_log(handle->core, &blocks, &found.log_used, &commits, &handle->core.at);
     found.frames = most_pages(handle);

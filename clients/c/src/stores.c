@@ -265,12 +265,11 @@ static void give_back_spare(famsync_memory *memory, uint32_t newest)
     }
 }
 
-/* Whether it is worth looking for pages to give back: with a log many commits become home at once. */
+/* Whether it is worth looking for pages to give back: many commits become home at once. */
 static bool is_more_home(famsync *handle)
 {
-    uint32_t home = newest_home(handle);
-    bool more = handle->log.blocks == 0 || home != handle->given_up_to;
-    handle->given_up_to = home;
+    bool more = handle->log.home != handle->given_up_to;
+    handle->given_up_to = handle->log.home;
     return more;
 }
 
@@ -286,7 +285,7 @@ static void give_back_above_budget(famsync *handle)
         return;
     for (memory = handle->memories; memory; memory = memory->next_one) {
         lock_pages(handle, &blocked);
-        give_back_spare(memory, newest_home(handle));
+        give_back_spare(memory, handle->log.home);
         unlock_pages(handle, &blocked);
     }
 }

@@ -36,9 +36,8 @@ static int read_and_supply(famsync *handle, uint32_t block, uint32_t count)
 }
 
 /* The core opens the volume from the beginning after each block that it lacked. So if it goes through the volume, MORE
-   times as many blocks are read as the time before, up to MOST, and then twice as many. It goes through the records of
-   an open journal block by block. In a log it wants the next descriptor a few blocks behind the last one: then HOPS
-   times come before. */
+   times as many blocks are read as the time before, up to MOST, and then twice as many. If it wants
+   the next descriptor of the log a few blocks behind the last one, HOPS times come before. */
 enum { MORE = 32, MOST = 1024, NEAR = 64, HOPS = 4 };
 
 /* The number of blocks to read from this one on, which the core wants. */
@@ -76,7 +75,7 @@ int supply_to_open(famsync *handle, uint32_t block, struct opening *opening)
 
 void forget_supplied(famsync *handle, const struct opening *opening)
 {
-    for (uint32_t block = first_forgettable(handle); block < opening->end; block++)
+    for (uint32_t block = FIRST_OF_LOG; block < opening->end; block++)
         famsync_core_forget(handle->core, block, &handle->core.at);
 }
 
@@ -110,7 +109,7 @@ int supply(famsync *handle, uint32_t block, uint64_t pages)
     if (count > handle->blocks - block)
         count = handle->blocks - block;
     forget_oldest(handle, reading);
-    if (block >= first_forgettable(handle)) {
+    if (block >= FIRST_OF_LOG) {
         *reading = (struct reading){block, count};
         handle->readings++;
     }

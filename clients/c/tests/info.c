@@ -34,7 +34,7 @@ static void parts(unsigned layout)
     famsync *handle = opened_with((struct famsync_options){.foreground = 1, .frames = 3});
     struct famsync_volume_info info = of(handle);
     WANT(info.layout == layout && info.blocks == blocks_of_file() && info.files == 2 && info.readonly == 0);
-    WANT(info.slots == 0 && info.log == log_blocks(SLOTS));
+    WANT(info.log == log_blocks(SLOTS));
     WANT(info.log_used == 0 && info.frames == greatest_commit() && famsync_frames(handle) == 3);
     WANT_CODE(famsync_write(handle, 0, 0, "x", 1, NULL), FAMSYNC_OK);
     WANT_CODE(famsync_msync(handle, NULL), FAMSYNC_OK);

@@ -23,7 +23,6 @@ def create(
     files: Mapping[str, Length],
     *,
     layout: int = 5,
-    slots: Optional[int] = None,
     preallocate: bool = False,
     log: Optional[int] = None,
     key: int = 0,
@@ -34,10 +33,8 @@ def create(
 
         famsync.create("bank.vol", {"bank": 8192, "log": (0, 1 << 40)})
 
-    In layouts 1 to 4, `slots` is the number of record slots of a journal: by default 1,020, or 1,024 in layout 4. A
-    commit has at most `slots` pages in layouts 1 and 2, and at most `slots` - 1 pages in layouts 3 and 4. In layouts 5
-    and 6, `log` is the number of blocks of the log, by default 16,384. A commit has to fit into the log. In layout 6,
-    `key` is the key of the digests; 0 means a random key.
+    `layout` is 5 or 6. `log` is the number of blocks of the log, by default 16,384. A commit has to fit into the log.
+    In layout 6, `key` is the key of the digests; 0 means a random key.
 
     With `preallocate` all disk blocks are allocated now. Otherwise a block is allocated before it is first written.
     Raises Argument if these arguments describe no valid volume."""
@@ -46,7 +43,6 @@ def create(
     plan = _library.Plan(
         size=ctypes.sizeof(_library.Plan),
         layout=_at_least_one(layout, "the layout"),
-        slots=0 if slots is None else _at_least_one(slots, "the number of slots"),
         files=len(made),
         file=(_library.NewFile * len(made))(*made),
         preallocate=bool(preallocate),

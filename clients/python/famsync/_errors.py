@@ -136,8 +136,7 @@ class Broken(Error, OSError):
 
 
 class Invalid(Error):
-    """A byte is past the file's end. Or a new length is above the file's capacity, or the volume has layout 1 or 2, in
-    which lengths never change."""
+    """A byte is past the file's end. Or a new length is above the file's capacity."""
 
     code = -30
 

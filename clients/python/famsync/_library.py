@@ -41,7 +41,6 @@ class Plan(ctypes.Structure):
     _fields_ = [
         ("size", c_size_t),
         ("layout", c_uint),
-        ("slots", c_uint),
         ("files", c_uint),
         ("file", POINTER(NewFile)),
         ("preallocate", c_int),
@@ -77,7 +76,6 @@ class VolumeInfo(ctypes.Structure):
         ("layout", c_uint64),
         ("blocks", c_uint64),
         ("files", c_uint64),
-        ("slots", c_uint64),
         ("log", c_uint64),
         ("log_used", c_uint64),
         ("frames", c_uint64),

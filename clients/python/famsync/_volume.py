@@ -42,11 +42,10 @@ class Stat(NamedTuple):
 class Info(NamedTuple):
     """What a volume is, which `Volume.info` returns."""
 
-    layout: int  # 1 to 6
+    layout: int  # 5 or 6
     blocks: int  # blocks of the volume, of 4,096 bytes each
     files: int  # the number of files
-    slots: int  # layouts 1 to 4: slots of each journal; otherwise 0
-    log: int  # layouts 5 and 6: blocks of the log; otherwise 0
+    log: int  # blocks of the log
     log_used: int  # blocks of the log in use
     frames: int  # the most pages that one commit can have; the option `frames` can set a lower limit
     readonly: bool  # whether the session only reads
@@ -323,7 +322,7 @@ class Volume:
         """Sets the length of a file, up to its capacity. Bytes past a new end are lost, and added bytes are zeros. Like
         a write, the new length is durable after the next commit. All pages that are added to a file count as written.
 
-        Raises Invalid if the length is above the capacity, or if the volume has layout 1 or 2. Raises NoFrame if one
+        Raises Invalid if the length is above the capacity. Raises NoFrame if one
         commit can't have the added pages and the other waiting pages. Raises Busy while plain memory of the file is
         open, because somebody may have a buffer of this memory."""
         self._session.call(self._set_length, name, _number(length, 64, "length"))

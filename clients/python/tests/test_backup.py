@@ -99,7 +99,7 @@ class Numbers(InAFolder):
         famsync.create("5.img", {"a": 65536, "b": (0, 5000)}, log=10)
         with famsync.open("5.img", frames=3) as volume:
             blocks = os.path.getsize("5.img") // PAGE
-            self.assertEqual(volume.info(), famsync.Info(5, blocks, 2, 0, 10, 0, 7, False))
+            self.assertEqual(volume.info(), famsync.Info(5, blocks, 2, 10, 0, 7, False))
             self.assertEqual((volume.frames, volume.capacities), (3, {"a": 65536, "b": 5000}))
         with famsync.open("5.img", readonly=True) as volume:
             self.assertIs(volume.info().readonly, True)
@@ -113,7 +113,7 @@ class Numbers(InAFolder):
                 volume.write("a", 0, b"x")
                 volume.commit()
                 blocks = os.path.getsize("log.img") // PAGE
-                self.assertEqual(volume.info(), famsync.Info(layout, blocks, 1, 0, 20, 2, 17, False))
+                self.assertEqual(volume.info(), famsync.Info(layout, blocks, 1, 20, 2, 17, False))
             os.unlink("log.img")
 
 

@@ -82,7 +82,7 @@ codes! {
     NoFile = -34,
     /// Memory of the file is open; a backup is being made; a thread stored during a commit, with
     /// [`kernel_tracking`](crate::Options::kernel_tracking); this thread holds a [`Group`](crate::Group); the session
-    /// has made 2^32 - 1 commits; or, in layouts 5 and 6, no number is left for another opening.
+    /// has made 2^32 - 1 commits; or no number is left for another opening.
     Busy = -35,
     /// A sync failed, and the volume's suspect flag couldn't be made; [`Error::system`] has the cause of the sync's
     /// failure.

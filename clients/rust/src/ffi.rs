@@ -42,7 +42,6 @@ pub struct FamsyncNewFile {
 pub struct FamsyncPlan {
     pub size: usize,
     pub layout: c_uint,
-    pub slots: c_uint,
     pub files: c_uint,
     pub file: *const FamsyncNewFile,
     pub preallocate: c_int,
@@ -74,7 +73,6 @@ pub struct FamsyncVolumeInfo {
     pub layout: u64,
     pub blocks: u64,
     pub files: u64,
-    pub slots: u64,
     pub log: u64,
     pub log_used: u64,
     pub frames: u64,

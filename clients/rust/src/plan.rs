@@ -21,7 +21,6 @@ use std::path::Path;
 #[derive(Clone, Debug)]
 pub struct Plan {
     layout: u32,
-    slots: Option<u32>,
     log: Option<u32>,
     key: u64,
     files: Vec<(String, u64, u64)>,
@@ -30,7 +29,7 @@ pub struct Plan {
 
 impl Default for Plan {
     fn default() -> Plan {
-        Plan { layout: 5, slots: None, log: None, key: 0, files: Vec::new(), preallocate: false }
+        Plan { layout: 5, log: None, key: 0, files: Vec::new(), preallocate: false }
     }
 }
 
@@ -40,20 +39,13 @@ impl Plan {
         Plan::default()
     }
 
-    /// The layout, 1 to 6.
+    /// The layout, 5 or 6.
     pub fn layout(&mut self, layout: u32) -> &mut Plan {
         self.layout = layout;
         self
     }
 
-    /// The slots of each journal, in layouts 1 to 4; by default 1,020, or 1,024 in layout 4. A commit has at most as
-    /// many pages, or one less in layouts 3 and 4.
-    pub fn slots(&mut self, slots: u32) -> &mut Plan {
-        self.slots = Some(slots);
-        self
-    }
-
-    /// The blocks of the log, in layouts 5 and 6, 4 to 2^24; 16,384 by default. A commit has to fit into it.
+    /// The blocks of the log, 4 to 2^24; 16,384 by default. A commit has to fit into it.
     pub fn log(&mut self, blocks: u32) -> &mut Plan {
         self.log = Some(blocks);
         self
@@ -70,7 +62,7 @@ impl Plan {
         self.growing(name, length, length)
     }
 
-    /// One more file, which may grow up to a capacity, from layout 3 on.
+    /// One more file, which may grow up to a capacity.
     pub fn growing(&mut self, name: impl Into<String>, length: u64, capacity: u64) -> &mut Plan {
         self.files.push((name.into(), length, capacity));
         self
@@ -85,8 +77,8 @@ impl Plan {
     /// Makes the volume in a new file. [`Code::System`], with `AlreadyExists`, if there is one of this name;
     /// [`Code::Argument`] if no volume is like that. The error says in words what is wrong.
     pub fn make(&self, path: impl AsRef<Path>) -> Result<(), Error> {
-        if self.layout == 0 || self.slots == Some(0) || self.log == Some(0) {
-            return Err(Error::with_message(Code::Argument, "a volume has a layout, and slots or a log".to_string()));
+        if self.layout == 0 || self.log == Some(0) {
+            return Err(Error::with_message(Code::Argument, "a volume has a layout and a log".to_string()));
         }
         let text = |bytes: &[u8], what: &str| {
             CString::new(bytes).map_err(|_| Error::with_message(Code::Argument, format!("{what} has no null byte")))
@@ -103,7 +95,6 @@ impl Plan {
         let plan = ffi::FamsyncPlan {
             size: mem::size_of::<ffi::FamsyncPlan>(),
             layout: c_uint::from(self.layout),
-            slots: c_uint::from(self.slots.unwrap_or(0)),
             files: c_uint::try_from(files.len()).unwrap_or(c_uint::MAX),
             file: files.as_ptr(),
             preallocate: c_int::from(self.preallocate),

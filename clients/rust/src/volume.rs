@@ -284,8 +284,8 @@ impl Volume {
         unsafe { ffi::famsync_acknowledged(self.session.handle()) }
     }
 
-    /// Sets the length of a file, as `ftruncate` does. [`Code::Einval`]: the length is more than the file's capacity,
-    /// or the volume has layout 1 or 2. Bytes past a new end are lost, and the bytes that a file grows by are zeros.
+    /// Sets the length of a file, as `ftruncate` does. [`Code::Einval`]: the length is more than the file's capacity.
+    /// Bytes past a new end are lost, and the bytes that a file grows by are zeros.
     /// The length is durable after the next commit. The pages that a file grows by, and the page in which it ended,
     /// count as written. [`Code::NoFrame`]: they and the other waiting pages are more than one commit can have.
     ///
@@ -634,8 +634,7 @@ pub struct Stat {
     pub frames: u64,
     /// Pages that wait for a commit, including those of plain memory.
     pub staged: u64,
-    /// Blocks of commits that wait to be written to their places, counted in each commit. In layouts 5 and 6: blocks of
-    /// the log that are in use.
+    /// Blocks of the log that are in use.
     pub unwritten: u64,
     /// Reads of the volume's file.
     pub reads: u64,
@@ -653,15 +652,13 @@ pub struct Stat {
 #[derive(Clone, Copy, Debug, PartialEq, Eq)]
 #[non_exhaustive]
 pub struct Info {
-    /// Its layout, 1 to 6.
+    /// Its layout, 5 or 6.
     pub layout: u64,
     /// The number of its blocks, of 4,096 bytes each.
     pub blocks: u64,
     /// The number of its files.
     pub files: u64,
-    /// The number of slots of each journal; 0 if it has a log.
-    pub slots: u64,
-    /// The number of blocks of the log; 0 if it has journals.
+    /// The number of blocks of the log.
     pub log: u64,
     /// The number of the log's blocks in use.
     pub log_used: u64,
@@ -679,8 +676,8 @@ impl Volume {
         let mut found = ffi::FamsyncVolumeInfo { size: mem::size_of::<ffi::FamsyncVolumeInfo>(), ..Default::default() };
         // Safety: the session is open, and there is as much room as it says.
         check(unsafe { ffi::famsync_volume_info(self.session.handle(), &mut found) })?;
-        let ffi::FamsyncVolumeInfo { layout, blocks, files, slots, log, log_used, frames, readonly, .. } = found;
-        Ok(Info { layout, blocks, files, slots, log, log_used, frames, readonly: readonly != 0 })
+        let ffi::FamsyncVolumeInfo { layout, blocks, files, log, log_used, frames, readonly, .. } = found;
+        Ok(Info { layout, blocks, files, log, log_used, frames, readonly: readonly != 0 })
     }
 
     /// Numbers of this session. As [`dirty`](Volume::dirty) it looks at plain memory, so nobody may store meanwhile.

@@ -69,6 +69,7 @@ fn refused() {
         Plan::new().growing("a", 2, 1).clone(),
         Plan::new().file("a", u64::MAX).clone(),
         Plan::new().file("a", 1).layout(0).clone(),
+        Plan::new().file("a", 1).layout(4).clone(),
         Plan::new().file("a", 1).layout(7).clone(),
         Plan::new().file("a", 1).layout(5).log(3).clone(),
         Plan::new().file("a", 1).layout(5).log(0).clone(),

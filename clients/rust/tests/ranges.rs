@@ -147,7 +147,7 @@ fn numbers_of_a_volume() {
     let blocks = std::fs::metadata(made.path()).unwrap().len() / 4096;
     let volume = Options::new().frames(3).open(made.path()).unwrap();
     let info = volume.info().unwrap();
-    assert_eq!((info.layout, info.blocks, info.files, info.slots), (5, blocks, 2, 0));
+    assert_eq!((info.layout, info.blocks, info.files), (5, blocks, 2));
     assert_eq!((info.log, info.log_used, info.frames, info.readonly), (log_blocks(8), 0, 7, false));
     assert_eq!((volume.frames(), volume.files().map(|file| file.capacity).collect()), (3, vec![65536, 5000]));
     drop(volume);
@@ -157,7 +157,7 @@ fn numbers_of_a_volume() {
         volume.write("a", 0, b"x").unwrap();
         volume.commit().unwrap();
         let info = volume.info().unwrap();
-        assert_eq!((info.layout, info.slots, info.log, info.log_used), (u64::from(layout), 0, log_blocks(8), 2));
+        assert_eq!((info.layout, info.log, info.log_used), (u64::from(layout), log_blocks(8), 2));
     }
 }
 
