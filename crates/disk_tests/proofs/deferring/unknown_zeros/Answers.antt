@@ -1,6 +1,0 @@
-use Rattle.std.proofs.Common.{ℕ, ◌*◌}
-use Rattle.std.proofs.lemmas.List.{length-replicate}
-use Rattle.disk_tests.proofs.deferring.unknown_zeros.Goals as goal
-
-pub new-requires : goal.new-requires
-new-requires g c = λ κs below. (below, length-replicate {A = ℕ} (4096 * c.args.blocks) 0)
