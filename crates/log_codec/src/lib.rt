@@ -10,8 +10,6 @@ mod log;
 mod seal;
 mod sealing;
 mod start;
-#[cfg(test)]
-mod tests;
 
 pub use block::{u32_at, u64_at};
 pub use broken::Broken;

@@ -8,8 +8,6 @@ mod lengths;
 mod looking;
 mod opening;
 mod switching;
-#[cfg(test)]
-mod tests;
 mod volume;
 mod youngest;
 

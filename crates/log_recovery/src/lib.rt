@@ -6,8 +6,6 @@ mod commit;
 mod ending;
 mod found;
 mod reading;
-#[cfg(test)]
-mod tests;
 
 pub use calls::read_block;
 pub use ending::ends_at;

@@ -4,8 +4,6 @@
 mod block;
 mod laws;
 mod super_block;
-#[cfg(test)]
-mod tests;
 
 pub use laws::{one_log_super, other_layouts};
 pub use super_block::{LogSuper, read_log_super};
