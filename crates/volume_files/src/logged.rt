@@ -112,6 +112,7 @@ fn made_in<'a, R: Files<File = File> + AllocGlobal, A: Allocator + Copy>(
     plan: LogPlan<'a, '_>,
     file: File,
 ) -> Result<File, FileFailure<'a>> {
+    let file = target.claimed(alloc, file)?;
     let disk = target.disk(file)?;
     made(alloc, target.path, plan, disk).map(FileDisk::into_file)
 }

@@ -288,6 +288,7 @@ where
     A: Allocator + Copy,
     L: WriteListener + Drop,
 {
+    let file = target.claimed(alloc, file)?;
     let disk = target.disk(NewFile::over(file, listener))?;
     let made = copied(alloc, plan, volume, disk)?;
     Ok(made.into_file().into_parts().0)

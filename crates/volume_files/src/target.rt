@@ -86,6 +86,17 @@ impl<'a, R: Files<File = File> + AllocGlobal> Target<'a, '_, R> {
         Ok(file)
     }
 
+    /// Writes zeros over the first blocks of such a file, all of which are zeros, and returns it. So they have disk
+    /// space: the first opening of a volume with a log writes them, and may find the disk full.
+    pub fn claimed<A: Allocator + Copy>(
+        &self,
+        alloc: A,
+        file: File,
+    ) -> Result<File, FileFailure<'a>> {
+        fill(alloc, self.path, &file, FIRST_BLOCKS)?;
+        Ok(file)
+    }
+
     /// Returns a disk over such a file.
     pub fn disk<F: BlockFile + Drop>(&self, file: F) -> Result<FileDisk<F>, FileFailure<'a>> {
         match FileDisk::over(file) {
@@ -213,11 +224,14 @@ fn lengthen<'a, A: Allocator + Copy>(
         .map_err(|cause| FileFailure::File { path, cause })
 }
 
+// The number of blocks before a log. A volume with a log is longer.
+const FIRST_BLOCKS: u64 = 4;
+
 // The largest number of bytes that are written at once.
 const PIECE: u64 = 1 << 20;
 
-// Writes zeros over all blocks of a new file, including its journals. So a disk without room for them fails here, and
-// not in the middle of a commit.
+// Writes zeros over the first blocks of a new file. So a disk without room for them fails here, and not in the middle of
+// a commit.
 fn fill<'a, A: Allocator + Copy>(
     alloc: A,
     path: &'a str,
