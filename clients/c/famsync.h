@@ -221,8 +221,8 @@ int famsync_format(const char *volume, const struct famsync_plan *plan);
    backup to this file.
    FAMSYNC_SYSTEM with ENAMETOOLONG: the file's name has more than 247 bytes.
    FAMSYNC_NOSPACE: the disk is full, and the opening would write to blocks that aren't allocated.
-   Nothing is lost. The library allocates these blocks in advance. The program `famsync` and version
-   0.3 don't, and other programs can make holes in the file.
+   Nothing is lost. The library, `famsync format` and `famsync migrate` allocate these blocks in
+   advance. Other commands and version 0.3 don't, and other programs can make holes in the file.
 
    With the option `readonly`:
 
