@@ -230,8 +230,8 @@ const FIRST_BLOCKS: u64 = 4;
 // The largest number of bytes that are written at once.
 const PIECE: u64 = 1 << 20;
 
-// Writes zeros over the first blocks of a new file. So a disk without room for them fails here, and not in the middle of
-// a commit.
+// Writes zeros over the first blocks of a new file. So a disk without room for them fails here, and not in the middle
+// of a commit.
 fn fill<'a, A: Allocator + Copy>(
     alloc: A,
     path: &'a str,
